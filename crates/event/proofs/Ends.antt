@@ -1,0 +1,59 @@
+-- Where a parser ends: the place it gives, and the stop it runs up to.
+-- Assumes nothing.
+use Prim.Native.Nat.{ℕ, zero, suc, _+_, _-_, _≤_, _<_}
+use native.Mathlib.Omega.{arith}
+use mathlib.Core.Path.{_≡_, refl, ap, sym, _∙_, subst}
+use mathlib.Core.Bool.{Bool, true, false, cond, not}
+use mathlib.Core.List.{List, [], _∷_, _++_, append-assoc, append-nil}
+use lib.Dec.{T, leb}
+use lib.ListN.{length, take, drop, length-append, length-take, length-drop, take-append-drop}
+use lib.Seq.{take-at, drop-at, drop-drop}
+use borrow.Author.Tests.{leb-true, le-leb}
+use Rattle.event.specs.Parser.{Result, ok, refuse, Parser, Test, Passed, ended, then, _>>=_, give, here, require, judge, element, filled, within, upTo, many, alone, several, prints, Goods, each}
+use Rattle.event.proofs.Codes.{Codes, any, At, T-true, true-T}
+
+-- the place given is where the rest of the input stands: what a loop over a slice by an index needs
+pub placed : {E A : Type 0} {Rest : List E → Type 0} {p : Parser E A} {print : A → List E} {Good : A → Type 0} → Codes Rest p print Good
+    → (ws : List E) (i : ℕ) (a : A) (j : ℕ) (r : List E) → i ≤ length ws → p i (drop i ws) ≡ ok a j r → (r ≡ drop j ws) × (i ≤ j) × (j ≤ length ws)
+placed {print = print} c ws i a j r h e =
+    let k = c .sound i (drop i ws) a j r e in
+    let n : i + length (print a) ≡ j = omega (arith, k .2) in (
+      sym (drop-at (print a) r (length (print a)) refl) ∙ ap (drop (length (print a))) (sym (k .1)) ∙ drop-drop (length (print a)) i ws ∙ ap (λ (m : ℕ). drop m ws) n,
+      omega (arith, k .2),
+      omega (arith, k .2, ap length (k .1), length-append (print a) r, length-drop i ws),
+    )
+
+-- where a parser stops
+abbrev pub Ends : {E A : Type 0} → (List E → Bool) → Parser E A → Type 0
+Ends {E} {A} stop p = (i : ℕ) (s : List E) (a : A) (j : ℕ) (r : List E) → p i s ≡ ok a j r → T (stop r)
+
+module _ {E : Type 0} (stop : List E → Bool) where
+  pub ends-bind : {A B : Type 0} (p : Parser E A) (q : A → Parser E B) → ((a : A) → Ends stop (q a)) → Ends stop (p >>= q)
+  ends-bind {A} p q h i s b j r = go (p i s)
+    where
+      go : (x : Result E A) → then q x ≡ ok b j r → T (stop r)
+      go (ok a k t) e = h a k t b j r e
+      go (refuse n k) e = let z : _≡_ {A = ℕ} 0 1 = cc in absurd (omega arith)
+
+  pub ends-map : {A B : Type 0} (p : Parser E A) (f : A → B) → Ends stop p → Ends stop (p >>= λ a. give (f a))
+  ends-map {A} p f h i s b j r = go (p i s) refl
+    where
+      go : (x : Result E A) → p i s ≡ x → then (λ a. give (f a)) x ≡ ok b j r → T (stop r)
+      go (ok a k t) e g = let u : t ≡ r = cc in subst (λ (l : List E). T (stop l)) u (h i s a k t e)
+      go (refuse n k) e g = let z : _≡_ {A = ℕ} 0 1 = cc in absurd (omega arith)
+
+  module _ {St A : Type 0} (item : St → Parser E A) (next : St → A → St) where
+    -- at the stop, or after what `more` says
+    at-stop : (i : ℕ) (s : List E) (y : Result E (List A)) (ys : List A) (j : ℕ) (r : List E) → (y ≡ ok ys j r → T (stop r))
+        → (x : Bool) → stop s ≡ x → cond x (ok [] i s) y ≡ ok ys j r → T (stop r)
+    at-stop i s y ys j r more true h e = let u : s ≡ r = cc in true-T (stop r) (rw u at h)
+    at-stop i s y ys j r more false h e = more e
+
+    ends-upTo : (f : ℕ) (st : St) → Ends stop (upTo item next stop f st)
+    ends-upTo zero st i s ys j r e = at-stop i s (refuse 0 i) ys j r (λ k. let z : _≡_ {A = ℕ} 0 1 = cc in absurd (omega arith)) (stop s) refl e
+    ends-upTo (suc f) st i s ys j r e = at-stop i s _ ys j r
+        (ends-bind (item st) (λ a. upTo item next stop f (next st a) >>= λ xs. give (a ∷ xs)) (λ a. ends-map (upTo item next stop f (next st a)) (a ∷_) (ends-upTo f (next st a))) i s ys j r)
+        (stop s) refl e
+
+    pub ends-many : (st : St) → Ends stop (many item next stop st)
+    ends-many st i s = ends-upTo (length s) st i s

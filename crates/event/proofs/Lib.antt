@@ -1,0 +1,9 @@
+pub mod Codes
+pub mod Sequences
+pub mod Many
+pub mod Ends
+pub mod Elements
+pub mod Whole
+pub mod Loops
+pub mod Keys
+pub mod Join

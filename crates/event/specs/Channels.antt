@@ -1,0 +1,14 @@
+-- A set of channels as the bits of a number, at any width.
+-- Assumes nothing.
+use Prim.Native.Nat.{ℕ, _/_, _%_, _^_}
+use mathlib.Core.Bool.{Bool}
+use lib.Bits.{bitOr}
+use lib.Dec.{eqb}
+
+-- channel k is in the set
+unfoldable pub present : ℕ → ℕ → Bool
+present set k = eqb (set / 2 ^ k % 2) 1
+
+-- the set with channel k
+unfoldable pub insert : ℕ → ℕ → ℕ
+insert set k = bitOr set (2 ^ k)

@@ -1,0 +1,6 @@
+pub mod Outcome
+pub mod Parser
+pub mod Words
+pub mod Rows
+pub mod Channels
+pub mod Demands

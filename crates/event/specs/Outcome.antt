@@ -1,0 +1,43 @@
+-- The outcome of a reading (rows) or a writing (words), and how a lent buffer and the answer follow from it.
+-- Assumes nothing.
+use Prim.Native.Nat.{ℕ, _+_}
+use mathlib.Core.Bool.{Bool, cond}
+use mathlib.Core.List.{List, [], _∷_, _++_}
+use lib.Dec.{leb}
+use lib.ListN.{length, drop}
+use Rattle.event.specs.declared.Answer.{Answer}
+use Rattle.event.specs.declared.Answer.the-variants as answer
+use Rattle.event.specs.declared.StampOrder.{StampOrder}
+use Rattle.event.specs.declared.StampOrder.the-variants as stamp
+use Rattle.event.specs.Parser.{Result, ok, refuse}
+
+-- the stamp order where none is given
+abbrev pub defaultOrder : StampOrder
+defaultOrder = stamp.Crossed
+
+pub data Outcome (A : Type 0) : Type 0 where
+  done : List A → Outcome A
+  refused : (number place : ℕ) → Outcome A
+
+-- the outcome of a parser that ran to the end
+abbrev pub outcome : {E A B : Type 0} → (A → Outcome B) → Result E A → Outcome B
+outcome f (ok a j r) = f a
+outcome f (refuse n k) = refused n k
+
+-- 12 and 24: more items than room, place the items needed
+abbrev pub limited : {A : Type 0} → ℕ → ℕ → Outcome A → Outcome A
+limited n room (done xs) = cond (leb (length xs) room) (done xs) (refused n (length xs))
+limited n room (refused m k) = refused m k
+
+-- the items of an outcome; none on refusal
+abbrev pub given : {A : Type 0} → Outcome A → List A
+given (done xs) = xs
+given (refused n k) = []
+
+abbrev pub answerOf : {A : Type 0} → Outcome A → Answer
+answerOf (done xs) = answer.Accepted (length xs)
+answerOf (refused n k) = answer.Refused n k
+
+-- the lent buffer afterwards: only the elements given are written, none on refusal
+abbrev pub overlaid : List ℕ → List ℕ → List ℕ
+overlaid xs buffer = xs ++ drop (length xs) buffer

@@ -1,0 +1,35 @@
+// What every dialect shares: the rows of an event, the stamp order, the answer of a reading or a writing.
+pub mod channels;
+pub mod kind;
+pub mod refusal;
+pub mod rows;
+
+ghost use mathlib.Core.Path.{_≡_};
+ghost use Rattle.event.specs.Outcome.{defaultOrder};
+
+// A row of an event (document 01, 'Rows').
+pub struct Row {
+    pub kind: u32,
+    pub unit: u32,
+    pub channel: u32,
+    pub datum: u32,
+}
+
+// The order of the four stamp chunks in dialect S (document 01, 'Two dialects').
+pub enum StampOrder {
+    Crossed,
+    Rising,
+}
+
+// The number of rows (or words) given, or a refusal number and its place.
+pub enum Answer {
+    Accepted(usize),
+    Refused { number: u32, place: usize },
+}
+
+// The stamp order where none is given.
+pub fn default_order() -> StampOrder
+    ensures { λ r. ⌜ r ≡ defaultOrder ⌝ }
+{
+    StampOrder::Crossed
+}

@@ -1,0 +1,224 @@
+-- Dialect S: the words and the rows of an event, and the rules that a valid one keeps (document 01).
+-- Assumes nothing.
+use Prim.Native.Nat.{ℕ, _+_, _*_, _^_, _≤_}
+use mathlib.Core.Bool.{Bool}
+use mathlib.Core.List.{List, [], _∷_, _++_, map}
+use lib.Dec.{T, ltb, leb}
+use lib.ListN.{length}
+use Rattle.event.specs.declared.Row.{Row}
+use Rattle.event.specs.declared.StampOrder.{StampOrder}
+use Rattle.event.specs.declared.StampOrder.the-variants.{Crossed, Rising}
+use Rattle.event.specs.Parser.{Test, test, Passed, Goods, All, each, fresh, member}
+use Rattle.event.specs.Words.{belowChecks}
+use Rattle.event.specs.Rows.{row}
+use Rattle.s800_layout.specs.Event.{Datum, Trigger, Pair, SampleHead, SampleDatum, Sample, Samples, Anode, Crdc, Registers, Hodoscope, energies, hits, Adc, Opaque, Form, trigger, timeOfFlight, scintillator, ionChamber, crdc, hodoscope, objectPin, vmeAdc, opaque, Content, Packet, Run, end, plain, Stamp, Number, Event, eventTag, stampTag, numberTag, energiesTag, samplesTag, anodeTag, tag, largestId, idOf, ChannelFormat, triggerTime, flightTime, pairEnergy, energy16, adcEnergy}
+
+-- Words.
+
+-- a length word counts itself, its tag and all below it
+abbrev pub framed : ℕ → List ℕ → List ℕ
+framed t content = (2 + length content) ∷ t ∷ content
+
+abbrev pub channelWord : ChannelFormat → ℕ → ℕ → ℕ
+channelWord f c v = c * 2 ^ f .bits + v
+
+abbrev pub datumWord : ChannelFormat → Datum → ℕ
+datumWord f d = channelWord f (d .channel) (d .value)
+
+abbrev pub pairWords : Pair → List ℕ
+pairWords x = datumWord pairEnergy (x .energy) ∷ channelWord pairEnergy (x .energy .channel) (x .time) ∷ []
+
+-- bit 15 set, sample in bits 14-6, channel in bits 5-0
+abbrev pub sampleHeadWord : SampleHead → ℕ
+sampleHeadWord h = 2 ^ 15 + h .sample * 2 ^ 6 + h .channel
+
+-- bits 15-12 zero, connector in bits 11-10, energy in bits 9-0
+abbrev pub sampleDatumWord : SampleDatum → ℕ
+sampleDatumWord d = d .connector * 2 ^ 10 + d .energy
+
+abbrev pub sampleWords : Sample → List ℕ
+sampleWords s = sampleHeadWord (s .head) ∷ sampleDatumWord (s .datum) ∷ []
+
+abbrev pub samplesWords : Samples → List ℕ
+samplesWords s = s .threshold ∷ each sampleWords (s .samples)
+
+abbrev pub anodeWords : Anode → List ℕ
+anodeWords a = a .energy ∷ a .time ∷ []
+
+abbrev pub registerWords : Registers → List ℕ
+registerWords h = h .a ∷ h .b ∷ h .time ∷ []
+
+-- the words after the tag
+abbrev pub contentWords : (f : Form) → Content f → List ℕ
+contentWords trigger c = c .pattern ∷ map (datumWord triggerTime) (c .times)
+contentWords timeOfFlight xs = map (datumWord flightTime) xs
+contentWords scintillator xs = each pairWords xs
+contentWords ionChamber xs = framed energiesTag (map (datumWord energy16) xs)
+contentWords crdc c = c .id ∷ (framed samplesTag (samplesWords (c .samples)) ++ framed anodeTag (anodeWords (c .anode)))
+contentWords hodoscope (energies id xs) = id ∷ map (datumWord energy16) xs
+contentWords hodoscope (hits h) = 2 ∷ registerWords h
+contentWords objectPin d = datumWord energy16 d ∷ []
+contentWords vmeAdc c = c .id ∷ map (datumWord adcEnergy) (c .energies)
+contentWords (opaque k) ws = ws
+
+abbrev pub packetWords : Packet → List ℕ
+packetWords q = framed (tag (q .form)) (contentWords (q .form) (q .content))
+
+abbrev pub runWords : Run → List ℕ
+runWords end = []
+runWords (plain q r) = packetWords q ++ runWords r
+
+abbrev pub stampWords : Stamp → List ℕ
+stampWords s = s .chunk0 ∷ s .chunk1 ∷ s .chunk2 ∷ s .chunk3 ∷ []
+
+-- bits 15-0, 31-16, 47-32
+abbrev pub numberWords : Number → List ℕ
+numberWords k = k .chunk0 ∷ k .chunk1 ∷ k .chunk2 ∷ []
+
+-- the packets: 0x5803 first, 0x5804 second, then the others
+abbrev pub packetsWords : Event → List ℕ
+packetsWords e = framed stampTag (stampWords (e .stamp)) ++ (framed numberTag (numberWords (e .number)) ++ runWords (e .run))
+
+abbrev pub version : ℕ
+version = 5
+
+abbrev pub words : Event → List ℕ
+words e = framed eventTag (version ∷ packetsWords e)
+
+-- Rows.
+
+-- two 16-bit chunks as one number
+abbrev pub two : ℕ → ℕ → ℕ
+two high low = high * 2 ^ 16 + low
+
+-- the chunks lowest first. Crossed, they stand as bits 15-0, 47-32, 31-16, 63-48. (Its own inverse.)
+abbrev pub lowestFirst : StampOrder → Stamp → Stamp
+lowestFirst Crossed s = record { chunk0 = s .chunk0; chunk1 = s .chunk2; chunk2 = s .chunk1; chunk3 = s .chunk3 }
+lowestFirst Rising s = s
+
+abbrev pub stampRow : StampOrder → Stamp → Row
+stampRow o s = row 2 0 (two (lowestFirst o s .chunk3) (lowestFirst o s .chunk2)) (two (lowestFirst o s .chunk1) (lowestFirst o s .chunk0))
+
+abbrev pub numberRow : Number → Row
+numberRow k = row 3 0 (k .chunk2) (two (k .chunk1) (k .chunk0))
+
+-- a time (kind 5) or an energy (kind 6); `base` is the row channel of channel 0
+abbrev pub datumRow : ℕ → ℕ → Datum → Row
+datumRow kind base d = row kind 0 (base + d .channel) (d .value)
+
+abbrev pub pairRows : Pair → List Row
+pairRows x = datumRow 6 0 (x .energy) ∷ row 5 0 (x .energy .channel) (x .time) ∷ []
+
+abbrev pub pad : (channel connector : ℕ) → ℕ
+pad channel connector = channel + 64 * connector
+
+abbrev pub sampleRow : Sample → Row
+sampleRow s = row 8 (s .head .sample) (pad (s .head .channel) (s .datum .connector)) (s .datum .energy)
+
+abbrev pub registerRow : Registers → Row
+registerRow h = row 10 (h .a) (h .b) (h .time)
+
+abbrev pub anodeRow : Anode → Row
+anodeRow a = row 9 0 (a .energy) (a .time)
+
+abbrev pub contentRows : (f : Form) → Content f → List Row
+contentRows trigger c = row 4 0 0 (c .pattern) ∷ map (datumRow 5 0) (c .times)
+contentRows timeOfFlight xs = map (datumRow 5 0) xs
+contentRows scintillator xs = each pairRows xs
+contentRows ionChamber xs = map (datumRow 6 0) xs
+contentRows crdc c = row 7 0 0 (c .samples .threshold) ∷ (map sampleRow (c .samples .samples) ++ (anodeRow (c .anode) ∷ []))
+contentRows hodoscope (energies id xs) = map (datumRow 6 (16 * id)) xs
+contentRows hodoscope (hits h) = registerRow h ∷ []
+contentRows objectPin d = datumRow 6 0 d ∷ []
+contentRows vmeAdc c = map (datumRow 6 (8 * c .id)) (c .energies)
+contentRows (opaque k) ws = map (row 11 0 0) ws
+
+abbrev pub packetRows : Packet → List Row
+packetRows q = row 1 (tag (q .form)) (idOf (q .form) (q .content)) 0 ∷ contentRows (q .form) (q .content)
+
+abbrev pub runRows : Run → List Row
+runRows end = []
+runRows (plain q r) = packetRows q ++ runRows r
+
+abbrev pub rows : StampOrder → Event → List Row
+rows o e = row 1 stampTag 0 0 ∷ stampRow o (e .stamp) ∷ row 1 numberTag 0 0 ∷ numberRow (e .number) ∷ runRows (e .run)
+
+-- Rules. `n` is the refusal number of a field out of range, `m` that of a repeated channel.
+
+abbrev pub stampChecks : ℕ → Stamp → List Test
+stampChecks n s = test n (ltb (s .chunk0) (2 ^ 16)) ∷ test n (ltb (s .chunk1) (2 ^ 16)) ∷ test n (ltb (s .chunk2) (2 ^ 16)) ∷ test n (ltb (s .chunk3) (2 ^ 16)) ∷ []
+
+abbrev pub numberChecks : ℕ → Number → List Test
+numberChecks n k = test n (ltb (k .chunk0) (2 ^ 16)) ∷ test n (ltb (k .chunk1) (2 ^ 16)) ∷ test n (ltb (k .chunk2) (2 ^ 16)) ∷ []
+
+abbrev pub idChecks : ℕ → Form → ℕ → List Test
+idChecks n f id = test n (leb id (largestId f)) ∷ []
+
+abbrev pub datumChecks : ℕ → ℕ → ChannelFormat → List ℕ → Datum → List Test
+datumChecks n m f seen d = test n (member (d .channel) (f .allowed)) ∷ test n (ltb (d .value) (2 ^ f .bits)) ∷ test m (fresh (d .channel) seen) ∷ []
+
+abbrev pub sampleHeadChecks : ℕ → SampleHead → List Test
+sampleHeadChecks n h = test n (ltb (h .sample) (2 ^ 9)) ∷ test n (ltb (h .channel) (2 ^ 6)) ∷ []
+
+abbrev pub sampleDatumChecks : ℕ → SampleDatum → List Test
+sampleDatumChecks n d = test n (ltb (d .connector) (2 ^ 2)) ∷ test n (ltb (d .energy) (2 ^ 10)) ∷ []
+
+abbrev pub sampleChecks : ℕ → Sample → List Test
+sampleChecks n s = sampleHeadChecks n (s .head) ++ sampleDatumChecks n (s .datum)
+
+abbrev pub anodeChecks : ℕ → Anode → List Test
+anodeChecks n a = test n (ltb (a .energy) (2 ^ 16)) ∷ test n (ltb (a .time) (2 ^ 16)) ∷ []
+
+abbrev pub registerChecks : ℕ → Registers → List Test
+registerChecks n h = test n (ltb (h .a) (2 ^ 16)) ∷ test n (ltb (h .b) (2 ^ 16)) ∷ test n (ltb (h .time) (2 ^ 16)) ∷ []
+
+-- no channel twice among the energies, or the times, of a packet: the channels before are the state
+abbrev pub channels : List ℕ → Datum → List ℕ
+channels seen d = d .channel ∷ seen
+
+abbrev pub pairChannels : List ℕ → Pair → List ℕ
+pairChannels seen x = x .energy .channel ∷ seen
+
+abbrev pub ValidDatum : ChannelFormat → List ℕ → Datum → Type 0
+ValidDatum f seen d = Passed (datumChecks 0 0 f seen d)
+
+abbrev pub ValidData : ChannelFormat → List Datum → Type 0
+ValidData f xs = Goods (ValidDatum f) channels [] xs
+
+abbrev pub ValidPair : List ℕ → Pair → Type 0
+ValidPair seen x = ValidDatum pairEnergy seen (x .energy) × Passed (belowChecks 0 (2 ^ 12) (x .time))
+
+abbrev pub ValidContent : (f : Form) → Content f → Type 0
+ValidContent trigger c = Passed (belowChecks 0 (2 ^ 5) (c .pattern)) × ValidData triggerTime (c .times)
+ValidContent timeOfFlight xs = ValidData flightTime xs
+ValidContent scintillator xs = Goods ValidPair pairChannels [] xs
+ValidContent ionChamber xs = ValidData energy16 xs
+ValidContent crdc c =
+    Passed (idChecks 0 crdc (c .id)) × Passed (belowChecks 0 (2 ^ 16) (c .samples .threshold)) ×
+    All (λ s. Passed (sampleChecks 0 s)) (c .samples .samples) × Passed (anodeChecks 0 (c .anode))
+ValidContent hodoscope (energies id xs) = T (ltb id 2) × ValidData energy16 xs
+ValidContent hodoscope (hits h) = Passed (registerChecks 0 h)
+ValidContent objectPin d = ValidDatum energy16 [] d
+ValidContent vmeAdc c = Passed (idChecks 0 vmeAdc (c .id)) × ValidData adcEnergy (c .energies)
+ValidContent (opaque k) ws = All (λ w. Passed (belowChecks 0 (2 ^ 16) w)) ws
+
+abbrev pub ValidRun : Run → Type 0
+ValidRun end = Unit {0}
+ValidRun (plain q r) = ValidContent (q .form) (q .content) × ValidRun r
+
+-- an event has 14 to 4,096 words
+abbrev pub smallestEvent : ℕ
+smallestEvent = 14
+
+abbrev pub largestEvent : ℕ
+largestEvent = 4096
+
+-- Every rule but the number of words. (That each packet's length is one its tag allows follows: proofs/Lengths.)
+pub record Formed (e : Event) : Type 0 where
+  pub stamp : Passed (stampChecks 0 (e .stamp))
+  pub number : Passed (numberChecks 0 (e .number))
+  pub run : ValidRun (e .run)
+
+pub record Valid (e : Event) : Type 0 where
+  pub formed : Formed e
+  pub size : length (words e) ≤ largestEvent

@@ -1,0 +1,3 @@
+pub mod Event
+pub mod Layout
+pub mod Reading

@@ -1,0 +1,205 @@
+-- Reading one event of dialect S: its rows, or the first refusal and its place. Each line is a rule, in the order of document 01.
+-- (A test that a word is below 2 ^ 16 never fails on 16-bit words.)
+-- Assumes nothing.
+use Prim.Native.Nat.{ℕ, suc, _+_, _-_, _*_, _/_, _%_, _^_}
+use mathlib.Core.Bool.{Bool, true, false, cond, _&&_}
+use mathlib.Core.List.{List, [], _∷_, _++_}
+use lib.Dec.{T, ltb, leb, eqb}
+use lib.ListN.{length}
+use Rattle.event.specs.declared.Row.{Row}
+use Rattle.event.specs.declared.StampOrder.{StampOrder}
+use Rattle.event.specs.Parser.{Parser, Test, ended, _>>=_, _>>_, give, here, require, within, many, several}
+use Rattle.event.specs.Words.{layout, exactly, anyWord, belowChecks, wordBelow}
+use Rattle.event.specs.Outcome.{Outcome, done, refused, outcome}
+use Rattle.s800_layout.specs.Event.{Datum, Trigger, Pair, SampleHead, SampleDatum, Sample, Samples, Anode, Crdc, Registers, Hodoscope, energies, hits, Adc, Opaque, Form, trigger, timeOfFlight, scintillator, ionChamber, crdc, hodoscope, objectPin, vmeAdc, opaque, Content, Packet, Run, runOf, Stamp, Number, Event, eventTag, stampTag, numberTag, energiesTag, samplesTag, anodeTag, tag, formOf, ChannelFormat, triggerTime, flightTime, pairEnergy, energy16, adcEnergy}
+use Rattle.s800_layout.specs.Layout.{channelWord, datumWord, sampleHeadWord, sampleDatumWord, version, rows, smallestEvent, largestEvent, idChecks, datumChecks, sampleHeadChecks, sampleDatumChecks, channels, pairChannels}
+
+abbrev pub between : ℕ → ℕ → ℕ → Bool
+between low high n = leb low n && leb n high
+
+abbrev pub even : ℕ → Bool
+even n = eqb (n % 2) 0
+
+-- 7: the lengths that each tag allows
+abbrev pub allowedLength : Form → ℕ → Bool
+allowedLength trigger n = between 3 7 n
+allowedLength timeOfFlight n = between 2 10 n
+allowedLength scintillator n = even n && between 2 14 n
+allowedLength ionChamber n = between 4 20 n
+allowedLength crdc n = even n && leb 10 n
+allowedLength hodoscope n = between 3 19 n
+allowedLength objectPin n = eqb n 3
+allowedLength vmeAdc n = between 3 11 n
+allowedLength (opaque k) n = leb 2 n
+
+-- the words after the length n of the packet at place p: 6 its tag, 7 the length for that tag; then its content
+abbrev pub bodyOf : {F A : Type 0} → Parser ℕ F → (F → ℕ → Bool) → (F → (p n : ℕ) → Parser ℕ A) → (p n : ℕ) → Parser ℕ A
+bodyOf tagWord allowed content p n = do
+  f ← tagWord
+  require (allowed f n) 7 p
+  content f p n
+
+-- a packet: 5 its length; what it holds must fill it
+abbrev pub packetOf : {F A : Type 0} → Parser ℕ F → (F → ℕ → Bool) → (F → (p n : ℕ) → Parser ℕ A) → Parser ℕ A
+packetOf tagWord allowed content = do
+  p ← here
+  n ← anyWord 5
+  require (leb 2 n) 5 p
+  within 5 p (n - 1) (bodyOf tagWord allowed content p n)
+
+-- an inner packet of length n: 9 its length, 9 its tag
+abbrev pub inner : {A : Type 0} → ℕ → ℕ → Parser ℕ A → Parser ℕ A
+inner n t content = do
+  p ← here
+  exactly 9 n
+  within 9 p (n - 1) (exactly 9 t >> content)
+
+-- a whole 16-bit number
+abbrev pub whole : Parser ℕ ℕ
+whole = wordBelow 10 (2 ^ 16)
+
+abbrev pub idWord : Form → Parser ℕ ℕ
+idWord f = layout 8 (λ w. w) (λ w. w) (idChecks 8 f)
+
+-- a channel word: 10 its channel, 11 a channel seen
+abbrev pub datumOf : ChannelFormat → ℕ → Datum
+datumOf f w = record { channel = w / 2 ^ f .bits; value = w % 2 ^ f .bits }
+
+abbrev pub datum : ChannelFormat → List ℕ → Parser ℕ Datum
+datum f seen = layout 10 (datumOf f) (datumWord f) (datumChecks 10 11 f seen)
+
+-- channel words up to the packet's end
+abbrev pub channelWords : ChannelFormat → Parser ℕ (List Datum)
+channelWords f = many (datum f) channels ended []
+
+-- an energy and a time, the channel the same in both
+abbrev pub pair : List ℕ → Parser ℕ Pair
+pair seen = do
+  e ← datum pairEnergy seen
+  t ← layout 10 (_% 2 ^ 12) (channelWord pairEnergy (e .channel)) (belowChecks 10 (2 ^ 12))
+  give (record { energy = e; time = t })
+
+abbrev pub sampleHeadOf : ℕ → SampleHead
+sampleHeadOf w = record { sample = w / 2 ^ 6 % 2 ^ 9; channel = w % 2 ^ 6 }
+
+abbrev pub sampleDatumOf : ℕ → SampleDatum
+sampleDatumOf w = record { connector = w / 2 ^ 10; energy = w % 2 ^ 10 }
+
+abbrev pub sample : Parser ℕ Sample
+sample = do
+  h ← layout 10 sampleHeadOf sampleHeadWord (sampleHeadChecks 10)
+  d ← layout 10 sampleDatumOf sampleDatumWord (sampleDatumChecks 10)
+  give (record { head = h; datum = d })
+
+abbrev pub samples : Parser ℕ Samples
+samples = do
+  t ← whole
+  xs ← several sample ended
+  give (record { threshold = t; samples = xs })
+
+abbrev pub anode : Parser ℕ Anode
+anode = do
+  e ← whole
+  t ← whole
+  give (record { energy = e; time = t })
+
+abbrev pub registers : Parser ℕ Registers
+registers = do
+  a ← whole
+  b ← whole
+  t ← whole
+  give (record { a = a; b = b; time = t })
+
+-- 7 again: a hodoscope with id 2 has length 6
+abbrev pub hitsContent : (p n : ℕ) → Parser ℕ Hodoscope
+hitsContent p n = do
+  require (eqb n 6) 7 p
+  h ← registers
+  give (hits h)
+
+abbrev pub energiesContent : ℕ → Parser ℕ Hodoscope
+energiesContent id = do
+  xs ← channelWords energy16
+  give (energies id xs)
+
+-- The content of the packet at place p, of length n: the words after its tag. 8 and 7 come first, then 9, 10 and 11 with the words rising.
+abbrev pub content : (f : Form) → (p n : ℕ) → Parser ℕ (Content f)
+content trigger p n = do
+  w ← wordBelow 10 (2 ^ 5)
+  xs ← channelWords triggerTime
+  give (record { pattern = w; times = xs })
+content timeOfFlight p n = channelWords flightTime
+content scintillator p n = many pair pairChannels ended []
+content ionChamber p n = inner (n - 2) energiesTag (channelWords energy16)
+content crdc p n = do
+  id ← idWord crdc
+  s ← inner (n - 7) samplesTag samples
+  a ← inner 4 anodeTag anode
+  give (record { id = id; samples = s; anode = a })
+content hodoscope p n = do
+  id ← idWord hodoscope
+  cond (eqb id 2) (hitsContent p n) (energiesContent id)
+content objectPin p n = datum energy16 []
+content vmeAdc p n = do
+  id ← idWord vmeAdc
+  xs ← channelWords adcEnergy
+  give (record { id = id; energies = xs })
+content (opaque k) p n = several whole ended
+
+-- 6: a tag that no form has; so 0x5803 and 0x5804 never come again
+abbrev pub formWord : Parser ℕ Form
+formWord = layout 6 formOf tag (λ f. [])
+
+abbrev pub packetContent : Form → (p n : ℕ) → Parser ℕ Packet
+packetContent f p n = content f p n >>= λ c. give (record { form = f; content = c })
+
+abbrev pub packet : Parser ℕ Packet
+packet = packetOf formWord allowedLength packetContent
+
+-- the first packet and the second
+abbrev pub stampContent : Parser ℕ Stamp
+stampContent = do
+  a ← whole
+  b ← whole
+  c ← whole
+  d ← whole
+  give (record { chunk0 = a; chunk1 = b; chunk2 = c; chunk3 = d })
+
+abbrev pub stampPacket : Parser ℕ Stamp
+stampPacket = packetOf (exactly 6 stampTag) (λ u. eqb 6) (λ u p n. stampContent)
+
+abbrev pub numberContent : Parser ℕ Number
+numberContent = do
+  a ← whole
+  b ← whole
+  c ← whole
+  give (record { chunk0 = a; chunk1 = b; chunk2 = c })
+
+abbrev pub numberPacket : Parser ℕ Number
+numberPacket = packetOf (exactly 6 numberTag) (λ u. eqb 5) (λ u p n. numberContent)
+
+-- packets up to `stop`, over words or rows
+abbrev pub runUpTo : {E : Type 0} → (List E → Bool) → Parser E Packet → Parser E Run
+runUpTo stop packet = do
+  qs ← several packet stop
+  give (runOf qs)
+
+-- an event's parts in their order, over words or rows
+abbrev pub eventOf : {E : Type 0} → Parser E Stamp → Parser E Number → Parser E Run → Parser E Event
+eventOf stamp number run = do
+  s ← stamp
+  k ← number
+  r ← run
+  give (record { stamp = s; number = k; run = r })
+
+-- 2, 3, 4, then packet by packet; n is the number of words of the event
+abbrev pub eventParser : ℕ → Parser ℕ Event
+eventParser n = do
+  exactly 2 n
+  exactly 3 eventTag
+  exactly 4 version
+  eventOf stampPacket numberPacket (runUpTo ended packet)
+
+-- 1 first
+abbrev pub reading : StampOrder → List ℕ → Outcome Row
+reading o ws = cond (between smallestEvent largestEvent (length ws)) (outcome (λ e. done (rows o e)) (eventParser (length ws) 0 ws)) (refused 1 0)
