@@ -7,3 +7,7 @@ pub mod Whole
 pub mod Loops
 pub mod Keys
 pub mod Join
+pub mod Leads
+pub mod Turns
+pub mod ChannelLaws
+pub mod Stores

@@ -3,4 +3,5 @@ pub mod Parser
 pub mod Words
 pub mod Rows
 pub mod Channels
+pub mod Scanning
 pub mod Demands

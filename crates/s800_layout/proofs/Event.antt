@@ -7,15 +7,15 @@ use mathlib.Core.Bool.{Bool, true, false, _&&_}
 use mathlib.Core.List.{List, [], _∷_, _++_}
 use lib.Dec.{T}
 use lib.ListN.{length}
-use Rattle.event.specs.Parser.{Parser, Passed, ended, _>>=_, several, many, alone, All, each}
+use Rattle.event.specs.Parser.{Parser, Passed, ended, _>>=_, require, several, many, alone, All, each}
 use Rattle.event.specs.Words.{exactly}
-use Rattle.event.proofs.Codes.{Codes, any, At, same, less}
+use Rattle.event.proofs.Codes.{Codes, any, At, same, codes-require}
 use Rattle.event.proofs.Sequences.{codes-bind, codes-map}
 use Rattle.event.proofs.Ends.{Ends, ends-bind, ends-map, ends-many}
 use Rattle.event.proofs.Elements.{codes-exactly, codes-several-at}
 use Rattle.s800_layout.specs.Event.{Packet, Run, end, plain, runOf, Stamp, Number, Event, eventTag}
-use Rattle.s800_layout.specs.Layout.{framed, stampWords, numberWords, packetWords, runWords, version, packetsWords, stampChecks, numberChecks, ValidContent, ValidRun, Formed}
-use Rattle.s800_layout.specs.Reading.{packet, stampPacket, numberPacket, runUpTo, eventOf, eventParser}
+use Rattle.s800_layout.specs.Layout.{framed, stampWords, numberWords, packetWords, runWords, version, packetsWords, smallestEvent, largestEvent, stampChecks, numberChecks, ValidContent, ValidRun, Formed}
+use Rattle.s800_layout.specs.Reading.{between, packet, stampPacket, numberPacket, runUpTo, eventOf, eventParser}
 use Rattle.s800_layout.proofs.Words as Words
 
 abbrev packetsOf : Run → List Packet
@@ -69,12 +69,15 @@ run-words : (r : Run) → each packetWords (packetsOf r) ≡ runWords r
 run-words end = refl
 run-words (plain q r) = ap (packetWords q ++_) (run-words r)
 
-pub codes-words : (n : ℕ) → Codes (At ended) (eventParser n) (λ e. n ∷ eventTag ∷ version ∷ packetsWords e) Formed
+pub codes-words : (n : ℕ)
+    → Codes (At ended) (eventParser n) (λ e. n ∷ eventTag ∷ version ∷ packetsWords e) (λ e. T (between smallestEvent largestEvent n) × Formed e)
 codes-words n = same
-    (codes-bind (λ e. tt) (codes-exactly 2 n) (λ u g. codes-bind (λ e. tt) (codes-exactly 3 eventTag) (λ u g. codes-bind (λ e. tt) (codes-exactly 4 version) (λ u g.
+    (codes-bind (λ e. tt) (codes-require (between smallestEvent largestEvent n) 1 0) (λ u g.
+    codes-bind (λ e. tt) (codes-exactly 2 n) (λ u g. codes-bind (λ e. tt) (codes-exactly 3 eventTag) (λ u g. codes-bind (λ e. tt) (codes-exactly 4 version) (λ u g.
     codes-event Words.codes-stamp Words.codes-number (codes-runUpTo ended runWords Words.codes-packet (λ q g r. tt) (λ r t. tt) (λ q g r. refl) refl run-words))
-    (λ u e g. refl)) (λ u e g. refl)) (λ u e g. refl))
-    (λ e g. g .1 .1 .1) (λ e g. (tt, (tt, (tt, g)))) (λ e g. refl)
+    (λ u e g. refl)) (λ u e g. refl)) (λ u e g. refl)) (λ u e g. refl))
+    (λ e g. (g .0, g .1 .1 .1 .1)) (λ e g. (g .0, (tt, (tt, (tt, g .1))))) (λ e g. refl)
 
 pub ends-words : (n : ℕ) → Ends ended (eventParser n)
-ends-words n = ends-bind ended (exactly 2 n) _ (λ u. ends-bind ended (exactly 3 eventTag) _ (λ u. ends-bind ended (exactly 4 version) _ (λ u. ends-event stampPacket numberPacket packet ended)))
+ends-words n = ends-bind ended (require (between smallestEvent largestEvent n) 1 0) _ (λ u. ends-bind ended (exactly 2 n) _ (λ u.
+    ends-bind ended (exactly 3 eventTag) _ (λ u. ends-bind ended (exactly 4 version) _ (λ u. ends-event stampPacket numberPacket packet ended))))

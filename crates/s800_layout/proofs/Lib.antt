@@ -2,3 +2,4 @@ pub mod Lengths
 pub mod Words
 pub mod Event
 pub mod Reading
+pub mod Width

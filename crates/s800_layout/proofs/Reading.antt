@@ -6,17 +6,18 @@ use mathlib.Core.Path.{_≡_, refl, ap, sym, _∙_, subst}
 use mathlib.Core.Logic.{_↔_}
 use mathlib.Core.Bool.{Bool, true, false, cond, _&&_}
 use mathlib.Core.List.{List, [], _∷_, _++_}
-use lib.Dec.{T, leb}
+use lib.Dec.{T, leb, leb→le}
 use lib.ListN.{length}
-use borrow.Author.Tests.{leb-true, le-leb}
+use borrow.Author.Tests.{le-leb}
 use Rattle.event.specs.declared.Row.{Row}
 use Rattle.event.specs.declared.StampOrder.{StampOrder}
 use Rattle.event.specs.Outcome.{Outcome, done, refused, outcome}
 use Rattle.event.specs.Demands.{OneEvent}
-use Rattle.event.proofs.Whole.{whole, accepted, passed, both-true}
+use Rattle.event.proofs.Elements.{both}
+use Rattle.event.proofs.Whole.{whole, accepted}
 use Rattle.s800_layout.specs.Event.{Event, eventTag}
 use Rattle.s800_layout.specs.Layout.{version, packetsWords, words, rows, smallestEvent, largestEvent, Formed, Valid}
-use Rattle.s800_layout.specs.Reading.{between, eventParser, reading}
+use Rattle.s800_layout.specs.Reading.{eventParser, reading}
 use Rattle.s800_layout.proofs.Event.{codes-words, ends-words}
 
 abbrev pub SEvent : StampOrder → List ℕ → List Row → Type 0
@@ -31,18 +32,17 @@ reading-iff o ws rs = (to, from)
   where
     to : reading o ws ≡ done rs → SEvent o ws rs
     to e =
-        let a = passed (between smallestEvent largestEvent (length ws)) _ 1 0 rs e in
-        let b = both-true (leb smallestEvent (length ws)) (leb (length ws) largestEvent) (a .0) in
-        let h = accepted (codes-words (length ws)) (λ v. done (rows o v)) (ends-words (length ws)) ws rs (a .1) in
+        let h = accepted (codes-words (length ws)) (λ v. done (rows o v)) (ends-words (length ws)) ws rs e in
+        let b = both (leb smallestEvent (length ws)) (leb (length ws) largestEvent) (h .1 .0) in
         let w : words (h .0) ≡ ws = sym (counted (length ws) (h .0) (sym (ap length (h .2)))) ∙ h .2 in
-        record { event = h .0; valid = record { formed = h .1; size = subst (λ (l : List ℕ). length l ≤ largestEvent) (sym w) (leb-true (length ws) largestEvent (b .1)) }; itsWords = w; itsRows = cc (h .3) }
+        record { event = h .0; valid = record { formed = h .1 .1; size = subst (λ (l : List ℕ). length l ≤ largestEvent) (sym w) (leb→le (length ws) largestEvent (b .1)) }; itsWords = w; itsRows = cc (h .3) }
 
     from : SEvent o ws rs → reading o ws ≡ done rs
     from v =
         let e = v .event in
         let a = le-leb smallestEvent (length (words e)) (omega arith) in
         let b = le-leb (length (words e)) largestEvent (v .valid .size) in
-        let h = whole (codes-words (length (words e))) (λ x. done (rows o x)) e (v .valid .formed) in
-        let k : outcome (λ x. done (rows o x)) (eventParser (length (words e)) 0 (words e)) ≡ done (rows o e)
+        let h = whole (codes-words (length (words e))) (λ x. done (rows o x)) e (rw (a, b) tt, v .valid .formed) in
+        let k : reading o (words e) ≡ done (rows o e)
         = subst (λ (l : List ℕ). outcome (λ x. done (rows o x)) (eventParser (length (words e)) 0 l) ≡ done (rows o e)) (counted (length (words e)) e refl) h in
-        rw (← v .itsWords, ← v .itsRows, a, b) k
+        rw (← v .itsWords, ← v .itsRows) k

@@ -10,7 +10,7 @@ use Rattle.event.specs.declared.Row.{Row}
 use Rattle.event.specs.declared.StampOrder.{StampOrder}
 use Rattle.event.specs.Parser.{Parser, Test, ended, _>>=_, _>>_, give, here, require, within, many, several}
 use Rattle.event.specs.Words.{layout, exactly, anyWord, belowChecks, wordBelow}
-use Rattle.event.specs.Outcome.{Outcome, done, refused, outcome}
+use Rattle.event.specs.Outcome.{Outcome, done, outcome, limited}
 use Rattle.s800_layout.specs.Event.{Datum, Trigger, Pair, SampleHead, SampleDatum, Sample, Samples, Anode, Crdc, Registers, Hodoscope, energies, hits, Adc, Opaque, Form, trigger, timeOfFlight, scintillator, ionChamber, crdc, hodoscope, objectPin, vmeAdc, opaque, Content, Packet, Run, runOf, Stamp, Number, Event, eventTag, stampTag, numberTag, energiesTag, samplesTag, anodeTag, tag, formOf, ChannelFormat, triggerTime, flightTime, pairEnergy, energy16, adcEnergy}
 use Rattle.s800_layout.specs.Layout.{channelWord, datumWord, sampleHeadWord, sampleDatumWord, version, rows, smallestEvent, largestEvent, idChecks, datumChecks, sampleHeadChecks, sampleDatumChecks, channels, pairChannels}
 
@@ -192,14 +192,18 @@ eventOf stamp number run = do
   r ← run
   give (record { stamp = s; number = k; run = r })
 
--- 2, 3, 4, then packet by packet; n is the number of words of the event
+-- 1, 2, 3, 4, then packet by packet; n is the number of words of the event
 abbrev pub eventParser : ℕ → Parser ℕ Event
 eventParser n = do
+  require (between smallestEvent largestEvent n) 1 0
   exactly 2 n
   exactly 3 eventTag
   exactly 4 version
   eventOf stampPacket numberPacket (runUpTo ended packet)
 
--- 1 first
 abbrev pub reading : StampOrder → List ℕ → Outcome Row
-reading o ws = cond (between smallestEvent largestEvent (length ws)) (outcome (λ e. done (rows o e)) (eventParser (length ws) 0 ws)) (refused 1 0)
+reading o ws = outcome (λ e. done (rows o e)) (eventParser (length ws) 0 ws)
+
+-- into room for so many rows: 12 last
+abbrev pub readingInto : ℕ → StampOrder → List ℕ → Outcome Row
+readingInto room o ws = limited 12 room (reading o ws)

@@ -1,0 +1,33 @@
+-- The code's view of a packet's channel words: a `Format` stands for a channel format of the layout.
+-- Assumes nothing.
+use Prim.Native.Nat.{ℕ, _/_, _%_, _^_, _<_}
+use mathlib.Core.Bool.{cond}
+use mathlib.Core.List.{List}
+use lib.Dec.{eqb}
+use Rattle.event.specs.declared.Row.{Row}
+use Rattle.event.specs.Channels.{present, channelsFrom}
+use Rattle.s800_layout.specs.Event.{Datum, ChannelFormat}
+use Rattle.s800_layout.specs.Layout.{datumRow}
+use Rattle.s800.specs.declared.Format.{Format}
+
+abbrev pub formatOf : Format → ChannelFormat
+formatOf m = record { bits = m .bits; allowed = channelsFrom 0 16 (m .allowed) }
+
+abbrev pub channelOf : Format → ℕ → ℕ
+channelOf m w = w / 2 ^ m .bits
+
+abbrev pub numberOf : Format → ℕ → ℕ
+numberOf m w = w % 2 ^ m .bits
+
+-- the refusal that the word w meets after the channels of a set, 0 for none
+unfoldable pub faultOf : Format → ℕ → ℕ → ℕ
+faultOf m seen w = cond (present (m .allowed) (channelOf m w)) (cond (present seen (channelOf m w)) 11 0) 10
+
+abbrev pub channelRow : Format → Datum → Row
+channelRow m d = datumRow (m .kind) (m .base) d
+
+-- a format whose channels are below 16 and whose rows hold 32-bit numbers
+pub record Readable (m : Format) : Type 0 where
+  pub bits : m .bits < 32
+  pub base : m .base < 2 ^ 16
+  pub narrow : (w : ℕ) → w < 2 ^ 16 → w / 2 ^ m .bits < 16

@@ -1,0 +1,45 @@
+// Reads one event of dialect S, the S800 event of version 5 (document 01), into rows.
+mod channel;
+mod word;
+
+use event::Answer;
+use event::StampOrder;
+use event::refusal;
+ghost use mathlib.Core.Path.{_≡_};
+ghost use lib.ListN.{length};
+ghost use denote.Ref.{now};
+ghost use Rattle.event.specs.Outcome.{answerOf, given, overlaid};
+ghost use Rattle.event.specs.Rows.{flat, room};
+ghost use Rattle.s800_layout.specs.Layout.{pad};
+ghost use Rattle.s800_layout.specs.Reading.{readingInto};
+
+// How the channel words of a packet are read: the kind of their rows, the row channel of channel 0, the bits of the
+// number below the channel, and the channels allowed, as a set of bits.
+pub(crate) struct Format {
+    pub(crate) kind: u32,
+    pub(crate) base: u32,
+    pub(crate) bits: u32,
+    pub(crate) allowed: u32,
+}
+
+// What the first words of a packet lead to.
+pub(crate) enum Opened {
+    // Channel words from `at` up to the packet's end, after `count` rows of the event.
+    Channels {
+        format: Format,
+        at: usize,
+        end: usize,
+        count: usize,
+    },
+    Refused {
+        number: u32,
+        place: usize,
+    },
+}
+
+// The pad of a sample: channel 0 to 63 of connector 0 to 3.
+pub fn pad(channel: u16, connector: u16) -> u32
+    ensures { λ r. ⌜ r ≡ pad channel connector ⌝ }
+{
+    channel as u32 + 64 * connector as u32
+}
