@@ -2,12 +2,14 @@
 -- Assumes nothing.
 use Prim.Native.Nat.{ℕ, _/_, _%_, _^_, _<_}
 use mathlib.Core.Bool.{cond}
-use mathlib.Core.List.{List}
+use mathlib.Core.List.{List, [], _∷_}
 use lib.Dec.{eqb}
 use Rattle.event.specs.declared.Row.{Row}
 use Rattle.event.specs.Channels.{present, channelsFrom}
-use Rattle.s800_layout.specs.Event.{Datum, ChannelFormat}
-use Rattle.s800_layout.specs.Layout.{datumRow}
+use Rattle.event.specs.Rows.{row}
+use Rattle.s800_layout.specs.Event.{Datum, Sample, Pair, ChannelFormat, pairEnergy}
+use Rattle.s800_layout.specs.Layout.{datumRow, sampleRow}
+use Rattle.s800_layout.specs.Reading.{datumOf, sampleHeadOf, sampleDatumOf}
 use Rattle.s800.specs.declared.Format.{Format}
 
 abbrev pub formatOf : Format → ChannelFormat
@@ -31,3 +33,20 @@ pub record Readable (m : Format) : Type 0 where
   pub bits : m .bits < 32
   pub base : m .base < 2 ^ 16
   pub narrow : (w : ℕ) → w < 2 ^ 16 → w / 2 ^ m .bits < 16
+
+-- the rows of an opaque word, and those of a sample
+abbrev pub opaqueRows : ℕ → List Row
+opaqueRows w = row 11 0 0 w ∷ []
+
+abbrev pub sampleRows : Sample → List Row
+sampleRows s = sampleRow s ∷ []
+
+-- a sample, and a pair, of two words
+abbrev pub sampleOf : ℕ → ℕ → Sample
+sampleOf head datum = record { head = sampleHeadOf head; datum = sampleDatumOf datum }
+
+abbrev pub pairOf : ℕ → ℕ → Pair
+pairOf energy time = record { energy = datumOf pairEnergy energy; time = time % 2 ^ 12 }
+
+abbrev pub pairFormat : Format
+pairFormat = record { kind = 6; base = 0; bits = 12; allowed = 0x3f }

@@ -1,5 +1,6 @@
 // Reads one event of dialect S, the S800 event of version 5 (document 01), into rows.
 mod channel;
+mod content;
 mod word;
 
 use event::Answer;

@@ -43,13 +43,13 @@ codes-inner {print = print} n t c = codes-here λ k. same
     (λ a g. (g .1 .0 .1, omega (arith, g .1 .1))) (λ a g. (tt, ((tt, g .0), omega (arith, g .1))))
     (λ a g. let e : n ≡ 2 + length (print a) = omega (arith, g .1 .1) in ap (λ (m : ℕ). m ∷ t ∷ print a) e)
 
-codes-whole : Codes any whole (λ w. w ∷ []) (λ w. Passed (belowChecks 0 (2 ^ 16) w))
+pub codes-whole : Codes any whole (λ w. w ∷ []) (λ w. Passed (belowChecks 0 (2 ^ 16) w))
 codes-whole = codes-below 10 (2 ^ 16)
 
 codes-id : (f : Form) → Codes any (idWord f) (λ w. w ∷ []) (λ w. Passed (idChecks 0 f w))
 codes-id f = codes-layout 8 (λ w. w) (λ w. w) (idChecks 8 f) (λ w p. refl)
 
-codes-datum : (f : ChannelFormat) (seen : List ℕ) → Codes any (datum f seen) (λ d. datumWord f d ∷ []) (ValidDatum f seen)
+pub codes-datum : (f : ChannelFormat) (seen : List ℕ) → Codes any (datum f seen) (λ d. datumWord f d ∷ []) (ValidDatum f seen)
 codes-datum f seen = codes-layout 10 (datumOf f) (datumWord f) (datumChecks 10 11 f seen) back
   where
     back : (d : Datum) → ValidDatum f seen d → datumOf f (datumWord f d) ≡ d
@@ -62,14 +62,14 @@ codes-datum f seen = codes-layout 10 (datumOf f) (datumWord f) (datumChecks 10 1
 codes-channels : (f : ChannelFormat) → Codes (At ended) (channelWords f) (map (datumWord f)) (ValidData f)
 codes-channels f = same (codes-many channels (codes-datum f) ended (λ st d g r. refl) refl []) (λ xs g. g) (λ xs g. g) (λ xs g. prints-map (datumWord f) channels [] xs)
 
-codes-pair : (seen : List ℕ) → Codes any (pair seen) pairWords (ValidPair seen)
+pub codes-pair : (seen : List ℕ) → Codes any (pair seen) pairWords (ValidPair seen)
 codes-pair seen = same
     (codes-bind (λ x. x .energy) (codes-datum pairEnergy seen) (λ e g.
     codes-map _ (λ x. x .time) (codes-layout 10 (_% 2 ^ 12) (channelWord pairEnergy (e .channel)) (belowChecks 10 (2 ^ 12)) (λ t p. omega (arith, ltb→lt))) (λ t. refl))
     (λ e x g. ap (λ (y : Pair). y .energy) (g .1)))
     (λ x g. (g .0, g .1 .0)) (λ x g. (g .0, (g .1, refl))) (λ x g. refl)
 
-codes-sample : Codes any sample sampleWords (λ s. Passed (sampleChecks 0 s))
+pub codes-sample : Codes any sample sampleWords (λ s. Passed (sampleChecks 0 s))
 codes-sample = same
     (codes-bind (λ s. s .head) (codes-layout 10 sampleHeadOf sampleHeadWord (sampleHeadChecks 10) head) (λ h g.
     codes-map _ (λ s. s .datum) (codes-layout 10 sampleDatumOf sampleDatumWord (sampleDatumChecks 10) second) (λ d. refl))
