@@ -4,10 +4,10 @@ pub mod Many
 pub mod Ends
 pub mod Elements
 pub mod Whole
-pub mod Loops
 pub mod Keys
 pub mod Join
 pub mod Leads
 pub mod Turns
 pub mod ChannelLaws
 pub mod Stores
+pub mod Loops

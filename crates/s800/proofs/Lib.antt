@@ -1,2 +1,6 @@
 pub mod Channels
 pub mod Runs
+pub mod Inner
+pub mod Opening
+pub mod ChannelPackets
+pub mod SinglePackets

@@ -28,6 +28,9 @@ faultOf m seen w = cond (present (m .allowed) (channelOf m w)) (cond (present se
 abbrev pub channelRow : Format → Datum → Row
 channelRow m d = datumRow (m .kind) (m .base) d
 
+abbrev pub channelRows : Format → Datum → List Row
+channelRows m d = channelRow m d ∷ []
+
 -- a format whose channels are below 16 and whose rows hold 32-bit numbers
 pub record Readable (m : Format) : Type 0 where
   pub bits : m .bits < 32
@@ -50,3 +53,14 @@ pairOf energy time = record { energy = datumOf pairEnergy energy; time = time % 
 
 abbrev pub pairFormat : Format
 pairFormat = record { kind = 6; base = 0; bits = 12; allowed = 0x3f }
+
+-- times, and energies, of the channels of a set; `base` is the row channel of channel 0
+abbrev pub timesFormat : ℕ → Format
+timesFormat allowed = record { kind = 5; base = 0; bits = 12; allowed = allowed }
+
+abbrev pub energiesFormat : ℕ → Format
+energiesFormat base = record { kind = 6; base = base; bits = 12; allowed = 0xffff }
+
+-- energies of 13 bits
+abbrev pub adcFormat : ℕ → Format
+adcFormat base = record { kind = 6; base = base; bits = 13; allowed = 0xff }

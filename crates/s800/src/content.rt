@@ -23,7 +23,13 @@ ghost use Rattle.s800_layout.specs.Reading.{whole, pair, sample};
 ghost use Rattle.s800.specs.Channel.{opaqueRows, sampleRows, sampleOf, pairOf, pairFormat};
 
 // The words from `from` up to `end`, a row each. They are never refused.
-pub(crate) fn read_opaque(words: &[u16], from: usize, end: usize, rows: &mut [u32], first: usize) -> usize
+pub(crate) fn read_opaque(
+    words: &[u16],
+    from: usize,
+    end: usize,
+    rows: &mut [u32],
+    first: usize,
+) -> usize
     requires { ⌜ (from ≤ end) × (end ≤ length (now words)) × (first ≤ from) ⌝ }
     ensures { λ r. ⌜ (r ≤ end) × Scanned (each opaqueRows) (several whole ended from (slice from end (now (words .entry)))) first (now (rows .entry)) (Answer.Accepted r) (now (rows .exit)) ⌝ }
 {
@@ -44,7 +50,13 @@ pub(crate) fn read_opaque(words: &[u16], from: usize, end: usize, rows: &mut [u3
 }
 
 // The samples from `from` up to `end`, an even number of words on.
-pub(crate) fn read_samples(words: &[u16], from: usize, end: usize, rows: &mut [u32], first: usize) -> Answer
+pub(crate) fn read_samples(
+    words: &[u16],
+    from: usize,
+    end: usize,
+    rows: &mut [u32],
+    first: usize,
+) -> Answer
     requires { ⌜ (from ≤ end) × (end ≤ length (now words)) × (first ≤ from) × ((end - from) % 2 ≡ 0) ⌝ }
     ensures { λ r. ⌜ Scanned (each sampleRows) (several sample ended from (slice from end (now (words .entry)))) first (now (rows .entry)) r (now (rows .exit)) ⌝ }
 {
@@ -90,7 +102,13 @@ fn store_sample(rows: &mut [u32], at: usize, head: u32, datum: u32)
 }
 
 // The pairs of an energy and a time from `from` up to `end`, an even number of words on.
-pub(crate) fn read_pairs(words: &[u16], from: usize, end: usize, rows: &mut [u32], first: usize) -> Answer
+pub(crate) fn read_pairs(
+    words: &[u16],
+    from: usize,
+    end: usize,
+    rows: &mut [u32],
+    first: usize,
+) -> Answer
     requires { ⌜ (from ≤ end) × (end ≤ length (now words)) × (first ≤ from) × ((end - from) % 2 ≡ 0) ⌝ }
     ensures { λ r. ⌜ Scanned (each pairRows) (many pair pairChannels ended [] from (slice from end (now (words .entry)))) first (now (rows .entry)) r (now (rows .exit)) ⌝ }
 {

@@ -1,6 +1,8 @@
 // Reads one event of dialect S, the S800 event of version 5 (document 01), into rows.
 mod channel;
+mod channel_packets;
 mod content;
+mod parts;
 mod word;
 
 use event::Answer;

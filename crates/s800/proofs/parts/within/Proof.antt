@@ -1,0 +1,12 @@
+-- `parts::within` meets its contract. Assumes nothing.
+use borrow.Author.Tests.{le-leb, lt-leb}
+use borrow.Author.Needs.{needs}
+use Rattle.s800.proofs.parts.within.Statement.{statement}
+use Rattle.s800.proofs.parts.within.Tie as tie
+
+pub within-spec : {M : Type 1} → statement M
+within-spec =
+    tie.close
+    (tie.spec
+    (λ c. rw (le-leb _ _ (c .if1 .taken)))
+    (λ c. rw (lt-leb _ _ (c .if1 .left))))

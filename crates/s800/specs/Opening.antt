@@ -1,0 +1,50 @@
+-- What the first words of a packet lead to (the contracts of private functions).
+-- Assumes nothing.
+use Prim.Native.Nat.{ℕ, _+_, _≤_}
+use mathlib.Core.Path.{_≡_}
+use mathlib.Core.List.{List, [], _∷_}
+use lib.ListN.{length, getD}
+use lib.Seq.{slice}
+use Rattle.event.specs.declared.Row.{Row}
+use Rattle.event.specs.Parser.{Result, refuse, _>>_, require, each}
+use Rattle.event.specs.Scanning.{Leads}
+use Rattle.s800_layout.specs.Event.{Datum, Form, Packet}
+use Rattle.s800_layout.specs.Layout.{packetRows}
+use Rattle.s800_layout.specs.Reading.{allowedLength, channelWords, packetContent}
+use Rattle.s800.specs.declared.Format.{Format}
+use Rattle.s800.specs.declared.Opened.{Opened}
+use Rattle.s800.specs.declared.Opened.the-variants.{Channels, Refused}
+use Rattle.s800.specs.Channel.{formatOf, channelRows, Readable}
+
+-- a packet of n words at `start` lies within the words, after no more rows than words
+pub record Standing (ws : List ℕ) (start n count : ℕ) : Type 0 where
+  pub two : 2 ≤ n
+  pub inside : start + n ≤ length ws
+  pub few : count ≤ start
+
+-- the packet of form f and n words at `start`, from the words after its tag on
+abbrev pub restOf : Form → List ℕ → (start n : ℕ) → Result ℕ Packet
+restOf f ws start n = (require (allowedLength f n) 7 start >> packetContent f start n) (start + 2) (slice (start + 2) (start + n) ws)
+
+-- a hodoscope's packet, of a length that its tag allows, with id 2
+pub record HodoscopeHits (ws : List ℕ) (start n : ℕ) : Type 0 where
+  pub least : 3 ≤ n
+  pub most : n ≤ 19
+  pub id : getD ws (start + 2) 0 ≡ 2
+
+module _ {A : Type 0} (ws : List ℕ) (end : ℕ) (rowsOf : A → List Row) (x : Result ℕ A) (k₀ : ℕ) (before after : List ℕ) where
+  -- channel words from `at` up to the end, the scan of which ends as that of x does
+  pub record Leading (m : Format) (at k : ℕ) : Type 0 where
+    pub readable : Readable m
+    pub inside : at ≤ end
+    pub few : k ≤ at
+    pub leads : Leads (each (channelRows m)) (channelWords (formatOf m) at (slice at end ws)) k after rowsOf x k₀ before
+
+  -- such channel words, or the refusal that x is
+  abbrev pub Opens : Opened → Type 0
+  Opens (Channels m at e k) = (e ≡ end) × Leading m at k
+  Opens (Refused n p) = x ≡ refuse n p
+
+-- the packet of form f and n words at `start`, opened after its tag
+pub record OpensAs (f : Form) (ws : List ℕ) (start n k : ℕ) (before after : List ℕ) (r : Opened) : Type 0 where
+  pub opens : Opens ws (start + n) packetRows (restOf f ws start n) k before after r

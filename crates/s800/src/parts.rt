@@ -1,0 +1,97 @@
+// What the functions that open packets share.
+use crate::Format;
+use crate::Opened;
+use event::Row;
+use event::kind;
+use event::rows::store_row;
+ghost use mathlib.Core.Path.{_≡_};
+ghost use denote.Ref.{now};
+ghost use Rattle.event.specs.Rows.{row, storeRow};
+ghost use Rattle.s800_layout.specs.Reading.{between};
+ghost use Rattle.s800.specs.Channel.{timesFormat, energiesFormat, adcFormat};
+
+pub(crate) fn within(length: usize, least: usize, most: usize) -> bool
+    ensures { λ r. ⌜ r ≡ between least most length ⌝ }
+{
+    least <= length && length <= most
+}
+
+pub(crate) fn refused(number: u32, place: usize) -> Opened
+    ensures { λ r. ⌜ r ≡ Opened.Refused number place ⌝ }
+{
+    Opened::Refused { number, place }
+}
+
+// A packet that is read whole: no channel words are left.
+pub(crate) fn complete(end: usize, count: usize) -> Opened
+    ensures { λ r. ⌜ r ≡ Opened.Channels (energiesFormat 0) end end count ⌝ }
+{
+    Opened::Channels {
+        format: energies(0),
+        at: end,
+        end,
+        count,
+    }
+}
+
+// The packet's own row.
+pub(crate) fn store_packet(rows: &mut [u32], at: usize, tag: u32, id: u32)
+    ensures { λ _. ⌜ now (rows .exit) ≡ storeRow (now (rows .entry)) at (row 1 tag id 0) ⌝ }
+{
+    let row = Row {
+        kind: kind::PACKET,
+        unit: tag,
+        channel: id,
+        datum: 0,
+    };
+    store_row(rows, at, row);
+}
+
+// A row of which only the datum is not 0.
+pub(crate) fn store_datum(rows: &mut [u32], at: usize, kind: u32, datum: u32)
+    ensures { λ _. ⌜ now (rows .exit) ≡ storeRow (now (rows .entry)) at (row kind 0 0 datum) ⌝ }
+{
+    let row = Row {
+        kind,
+        unit: 0,
+        channel: 0,
+        datum,
+    };
+    store_row(rows, at, row);
+}
+
+// Times of the channels of a set.
+pub(crate) fn times(allowed: u32) -> Format
+    ensures { λ r. ⌜ r ≡ timesFormat allowed ⌝ }
+{
+    Format {
+        kind: kind::TIME,
+        base: 0,
+        bits: 12,
+        allowed,
+    }
+}
+
+// Energies of channels 0 to 15.
+pub(crate) fn energies(base: u32) -> Format
+    ensures { λ r. ⌜ r ≡ energiesFormat base ⌝ }
+{
+    Format {
+        kind: kind::ENERGY,
+        base,
+        bits: 12,
+        allowed: 0xffff,
+    }
+}
+
+// Energies of 13 bits, of channels 0 to 7.
+pub(crate) fn adc_energies(base: u32) -> Format
+    ensures { λ r. ⌜ r ≡ adcFormat base ⌝ }
+{
+    Format {
+        kind: kind::ENERGY,
+        base,
+        bits: 13,
+        allowed: 0xff,
+    }
+}
