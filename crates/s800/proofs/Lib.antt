@@ -4,3 +4,4 @@ pub mod Inner
 pub mod Opening
 pub mod ChannelPackets
 pub mod SinglePackets
+pub mod RunPackets

@@ -1,14 +1,16 @@
 -- The code's view of a packet's channel words: a `Format` stands for a channel format of the layout.
 -- Assumes nothing.
-use Prim.Native.Nat.{ℕ, _/_, _%_, _^_, _<_}
+use Prim.Native.Nat.{ℕ, _/_, _%_, _^_, _≤_, _<_}
 use mathlib.Core.Bool.{cond}
 use mathlib.Core.List.{List, [], _∷_}
 use lib.Dec.{eqb}
+use Rattle.event.specs.declared.Answer.{Answer}
+use Rattle.event.specs.declared.Answer.the-variants.{Accepted, Refused}
 use Rattle.event.specs.declared.Row.{Row}
 use Rattle.event.specs.Channels.{present, channelsFrom}
 use Rattle.event.specs.Rows.{row}
-use Rattle.s800_layout.specs.Event.{Datum, Sample, Pair, ChannelFormat, pairEnergy}
-use Rattle.s800_layout.specs.Layout.{datumRow, sampleRow}
+use Rattle.s800_layout.specs.Event.{Datum, Sample, Pair, Anode, ChannelFormat, pairEnergy}
+use Rattle.s800_layout.specs.Layout.{datumRow, sampleRow, anodeRow}
 use Rattle.s800_layout.specs.Reading.{datumOf, sampleHeadOf, sampleDatumOf}
 use Rattle.s800.specs.declared.Format.{Format}
 
@@ -37,12 +39,15 @@ pub record Readable (m : Format) : Type 0 where
   pub base : m .base < 2 ^ 16
   pub narrow : (w : ℕ) → w < 2 ^ 16 → w / 2 ^ m .bits < 16
 
--- the rows of an opaque word, and those of a sample
+-- the rows of an opaque word, of a sample, of an anode
 abbrev pub opaqueRows : ℕ → List Row
 opaqueRows w = row 11 0 0 w ∷ []
 
 abbrev pub sampleRows : Sample → List Row
 sampleRows s = sampleRow s ∷ []
+
+abbrev pub anodeRows : Anode → List Row
+anodeRows a = anodeRow a ∷ []
 
 -- a sample, and a pair, of two words
 abbrev pub sampleOf : ℕ → ℕ → Sample
@@ -64,3 +69,8 @@ energiesFormat base = record { kind = 6; base = base; bits = 12; allowed = 0xfff
 -- energies of 13 bits
 abbrev pub adcFormat : ℕ → Format
 adcFormat base = record { kind = 6; base = base; bits = 13; allowed = 0xff }
+
+-- no more rows than words up to `end`
+abbrev pub NoMore : ℕ → Answer → Type 0
+NoMore end (Accepted k) = k ≤ end
+NoMore end (Refused n p) = Unit {0}

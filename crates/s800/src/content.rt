@@ -20,7 +20,7 @@ ghost use Rattle.event.specs.Rows.{storeRow};
 ghost use Rattle.event.specs.Scanning.{storeRows, Scanned};
 ghost use Rattle.s800_layout.specs.Layout.{pairRows, pairChannels, sampleRow};
 ghost use Rattle.s800_layout.specs.Reading.{whole, pair, sample};
-ghost use Rattle.s800.specs.Channel.{opaqueRows, sampleRows, sampleOf, pairOf, pairFormat};
+ghost use Rattle.s800.specs.Channel.{opaqueRows, sampleRows, sampleOf, pairOf, pairFormat, NoMore};
 
 // The words from `from` up to `end`, a row each. They are never refused.
 pub(crate) fn read_opaque(
@@ -58,7 +58,7 @@ pub(crate) fn read_samples(
     first: usize,
 ) -> Answer
     requires { ⌜ (from ≤ end) × (end ≤ length (now words)) × (first ≤ from) × ((end - from) % 2 ≡ 0) ⌝ }
-    ensures { λ r. ⌜ Scanned (each sampleRows) (several sample ended from (slice from end (now (words .entry)))) first (now (rows .entry)) r (now (rows .exit)) ⌝ }
+    ensures { λ r. ⌜ Scanned (each sampleRows) (several sample ended from (slice from end (now (words .entry)))) first (now (rows .entry)) r (now (rows .exit)) × NoMore end r ⌝ }
 {
     let mut i = from;
     let mut count = first;
@@ -110,7 +110,7 @@ pub(crate) fn read_pairs(
     first: usize,
 ) -> Answer
     requires { ⌜ (from ≤ end) × (end ≤ length (now words)) × (first ≤ from) × ((end - from) % 2 ≡ 0) ⌝ }
-    ensures { λ r. ⌜ Scanned (each pairRows) (many pair pairChannels ended [] from (slice from end (now (words .entry)))) first (now (rows .entry)) r (now (rows .exit)) ⌝ }
+    ensures { λ r. ⌜ Scanned (each pairRows) (many pair pairChannels ended [] from (slice from end (now (words .entry)))) first (now (rows .entry)) r (now (rows .exit)) × NoMore end r ⌝ }
 {
     let format = pair_energy();
     let mut seen: u32 = 0;

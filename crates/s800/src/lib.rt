@@ -3,6 +3,7 @@ mod channel;
 mod channel_packets;
 mod content;
 mod parts;
+mod run_packets;
 mod word;
 
 use event::Answer;

@@ -1,6 +1,7 @@
 // What the functions that open packets share.
 use crate::Format;
 use crate::Opened;
+use event::Answer;
 use event::Row;
 use event::kind;
 use event::rows::store_row;
@@ -9,6 +10,7 @@ ghost use denote.Ref.{now};
 ghost use Rattle.event.specs.Rows.{row, storeRow};
 ghost use Rattle.s800_layout.specs.Reading.{between};
 ghost use Rattle.s800.specs.Channel.{timesFormat, energiesFormat, adcFormat};
+ghost use Rattle.s800.specs.Opening.{openedOf};
 
 pub(crate) fn within(length: usize, least: usize, most: usize) -> bool
     ensures { λ r. ⌜ r ≡ between least most length ⌝ }
@@ -31,6 +33,16 @@ pub(crate) fn complete(end: usize, count: usize) -> Opened
         at: end,
         end,
         count,
+    }
+}
+
+// A packet whose content was read whole, or refused.
+pub(crate) fn opened(answer: Answer, end: usize) -> Opened
+    ensures { λ r. ⌜ r ≡ openedOf end answer ⌝ }
+{
+    match answer {
+        Answer::Accepted(count) => complete(end, count),
+        Answer::Refused { number, place } => refused(number, place),
     }
 }
 

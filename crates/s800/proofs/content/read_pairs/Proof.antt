@@ -21,15 +21,19 @@ channel-fault-requires c κs = (rw (c .before .before .loop .inv .2) pair-readab
 
 returns : tie.Need-returns Inv-loop μ-loop
 returns c =
-    let l = c .before .before .before .before in
-    pair-stop (l .loop .inv .0) (omega arith) (search needs) (c .before .before .word .ensures .0) (c .before .before .word .ensures .1) _
-    (c .before .channel-fault .ensures ∙ rw (l .loop .inv .2)) (c .if1 .taken)
+    let l = c .before .before .before .before in (
+      pair-stop (l .loop .inv .0) (omega arith) (search needs) (c .before .before .word .ensures .0) (c .before .before .word .ensures .1) _
+          (c .before .channel-fault .ensures ∙ rw (l .loop .inv .2)) (c .if1 .taken),
+      tt,
+    )
 
 returns-2 : tie.Need-returns-2 Inv-loop μ-loop
 returns-2 c =
-    let l = c .before .before .before .before .before .before .before in
-    pair-stop-2 (l .loop .inv .0) (omega arith) (search needs) (c .before .before .before .before .before .word .ensures .0) (c .before .before .before .before .before .word .ensures .1) (c .before .before .word2 .ensures .0)
-    (sym (c .before .before .before .if1 .left) ∙ c .before .before .before .before .channel-fault .ensures ∙ rw (l .loop .inv .2)) _ (c .before .if2 .taken) (c .refused .ensures)
+    let l = c .before .before .before .before .before .before .before in (
+      pair-stop-2 (l .loop .inv .0) (omega arith) (search needs) (c .before .before .before .before .before .word .ensures .0) (c .before .before .before .before .before .word .ensures .1) (c .before .before .word2 .ensures .0)
+          (sym (c .before .before .before .if1 .left) ∙ c .before .before .before .before .channel-fault .ensures ∙ rw (l .loop .inv .2)) _ (c .before .if2 .taken) (c .refused .ensures),
+      rw (c .refused .ensures) tt,
+    )
 
 loop-again : tie.Need-loop-again Inv-loop μ-loop
 loop-again c =
@@ -66,4 +70,4 @@ read-pairs-spec =
     (λ c. omega arith)
     loop-again
     (λ c. search needs)
-    (λ c. finish (c .before .loop .inv .0) (c .loop-test .left)))
+    (λ c. (finish (c .before .loop .inv .0) (c .loop-test .left), omega (arith, c .before .loop .inv .0 .few))))
