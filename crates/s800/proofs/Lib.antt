@@ -5,3 +5,4 @@ pub mod Opening
 pub mod ChannelPackets
 pub mod SinglePackets
 pub mod RunPackets
+pub mod Packets

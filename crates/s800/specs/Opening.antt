@@ -3,7 +3,7 @@
 use Prim.Native.Nat.{ℕ, _+_, _-_, _%_, _^_, _≤_, _<_}
 use mathlib.Core.Path.{_≡_}
 use mathlib.Core.List.{List, [], _∷_}
-use lib.ListN.{length, getD}
+use lib.ListN.{length, getD, drop}
 use lib.Seq.{slice}
 use Rattle.event.specs.declared.Answer.{Answer}
 use Rattle.event.specs.declared.Answer.the-variants as answer
@@ -13,7 +13,7 @@ use Rattle.event.specs.Rows.{row}
 use Rattle.event.specs.Scanning.{Leads}
 use Rattle.s800_layout.specs.Event.{Datum, Form, crdc, Packet, samplesTag, tag}
 use Rattle.s800_layout.specs.Layout.{packetRows}
-use Rattle.s800_layout.specs.Reading.{allowedLength, channelWords, packetContent}
+use Rattle.s800_layout.specs.Reading.{allowedLength, channelWords, packetContent, packet}
 use Rattle.s800.specs.declared.Format.{Format}
 use Rattle.s800.specs.declared.Opened.{Opened}
 use Rattle.s800.specs.declared.Opened.the-variants.{Channels, Refused}
@@ -68,3 +68,13 @@ module _ {A : Type 0} (ws : List ℕ) (end : ℕ) (rowsOf : A → List Row) (x :
 -- the packet of form f and n words at `start`, opened after its tag
 pub record OpensAs (f : Form) (ws : List ℕ) (start n k : ℕ) (before after : List ℕ) (r : Opened) : Type 0 where
   pub opens : Opens ws (start + n) packetRows (restOf f ws start n) k before after r
+
+-- channel words that are left lie within the packet, and the packet within the words
+abbrev pub Lies : List ℕ → ℕ → Opened → Type 0
+Lies ws start (Channels m at e k) = (start + 2 ≤ e) × (e ≤ length ws)
+Lies ws start (Refused n p) = Unit {0}
+
+-- the packet at `start`, opened
+pub record OpensPacket (ws : List ℕ) (start k : ℕ) (before after : List ℕ) (r : Opened) : Type 0 where
+  pub opens : Opens ws (start + getD ws start 0) packetRows (packet start (drop start ws)) k before after r
+  pub lies : Lies ws start r

@@ -1,5 +1,7 @@
 pub mod Lengths
 pub mod Words
+pub mod Filled
 pub mod Event
 pub mod Reading
 pub mod Width
+pub mod Edges

@@ -1,0 +1,93 @@
+-- One packet of the run: from its first word to its form's own words, and to the packet after it. Over plain values.
+-- Assumes nothing.
+use Prim.Native.Nat.{ℕ, zero, suc, _+_, _-_, _≤_, _<_}
+use native.Mathlib.Nat.{le-refl}
+use native.Mathlib.Omega.{arith}
+use mathlib.Core.Path.{_≡_, refl, ap, sym, _∙_}
+use mathlib.Core.Bool.{Bool, true, false, cond}
+use mathlib.Core.List.{List, [], _∷_, _++_}
+use lib.Dec.{T, eqb}
+use lib.ListN.{length, getD, drop}
+use lib.Seq.{slice, length-slice}
+use borrow.Author.Tests.{eq-eqb, ne-eqb, le-leb, lt-leb}
+use Rattle.event.specs.declared.Answer.{Answer}
+use Rattle.event.specs.declared.Answer.the-variants.{Accepted}
+use Rattle.event.specs.Parser.{Result, ok, refuse, Parser, then, give, ended, filled, several, each, alone}
+use Rattle.event.specs.Scanning.{Scanned, Leads}
+use Rattle.event.proofs.Leads.{leads-trans}
+use Rattle.event.proofs.Loops.{to-the-end, within-slice, within-short, leads-filled}
+use Rattle.event.proofs.Turns.{at-word}
+use Rattle.s800_layout.specs.Event.{Form, trigger, Content, Packet, tag, formOf}
+use Rattle.s800_layout.specs.Layout.{packetRows}
+use Rattle.s800_layout.specs.Reading.{allowedLength, bodyOf, content, packetContent, formWord, packet}
+use Rattle.s800_layout.proofs.Lengths.{form-back}
+use Rattle.s800_layout.proofs.Filled.{content-ends}
+use Rattle.s800.specs.declared.Opened.{Opened}
+use Rattle.s800.specs.declared.Opened.the-variants.{Channels, Refused}
+use Rattle.s800.specs.Opening.{Standing, restOf, Opens, OpensAs, OpensPacket}
+
+-- what a packet holds fills it
+rest-ends : (f : Form) (ws : List ℕ) (start n : ℕ) → start + n ≤ length ws → 2 ≤ n → (q : Packet) (j : ℕ) (r : List ℕ) → restOf f ws start n ≡ ok q j r → T (ended r)
+rest-ends f ws start n long two q j r e = go (allowedLength f n) refl (content f start n (start + 2) (slice (start + 2) (start + n) ws)) refl e
+  where
+    size : length (slice (start + 2) (start + n) ws) ≡ n - 2
+    size = length-slice (start + 2) (start + n) ws long ∙ (let z : start + n - (start + 2) ≡ n - 2 = omega arith in z)
+
+    go : (b : Bool) → allowedLength f n ≡ b → (x : Result ℕ (Content f)) → content f start n (start + 2) (slice (start + 2) (start + n) ws) ≡ x
+        → then (λ u. λ i s. then (λ c. give (record { form = f; content = c })) x) (cond b (ok tt (start + 2) (slice (start + 2) (start + n) ws)) (refuse 7 start)) ≡ ok q j r → T (ended r)
+    go true a (ok c k t) g h = let u : t ≡ r = cc in rw u at (content-ends f start n a (start + 2) (slice (start + 2) (start + n) ws) c k t size g)
+    go true a (refuse m p) g h = let z : _≡_ {A = ℕ} 0 1 = cc in absurd (omega arith)
+    go false a x g h = let z : _≡_ {A = ℕ} 0 1 = cc in absurd (omega arith)
+
+module _ (ws : List ℕ) (start : ℕ) {n : ℕ} (below : start < length ws) (d₀ : n ≡ getD ws start 0) where
+  input : drop start ws ≡ n ∷ slice (suc start) (length ws) ws
+  input = to-the-end start ws ∙ at-word ws start (length ws) below (le-refl (length ws)) ∙ rw d₀
+
+  pub packet-short : {k : ℕ} {b after : List ℕ} {r : Opened} → n < 2 → r ≡ Refused 5 start → OpensPacket ws start k b after r
+  packet-short h q = rw q (record { opens = rw (input, eq-eqb n n refl, lt-leb 2 n h); lies = tt })
+
+  module _ (two : 2 ≤ n) where
+    pub packet-long : {k : ℕ} {b after : List ℕ} {r : Opened} → length ws - start < n → r ≡ Refused 5 start → OpensPacket ws start k b after r
+    packet-long h q = rw q (record {
+      opens = rw (input, eq-eqb n n refl, le-leb 2 n two)
+          (within-short 5 start (n - 1) (bodyOf formWord allowedLength packetContent start n) (suc start) (length ws) ws (le-refl (length ws)) (omega arith) (omega arith));
+      lies = tt;
+    })
+
+    module _ (inside : n ≤ length ws - start) {t : ℕ} (d : t ≡ getD ws (start + 1) 0) where
+      body : packet start (drop start ws) ≡ filled (slice (start + n) (length ws) ws) (bodyOf formWord allowedLength packetContent start n (suc start) (t ∷ slice (start + 2) (start + n) ws))
+      body =
+          let end : suc start + (n - 1) ≡ start + n = omega arith in
+          let one : suc start ≡ start + 1 = omega arith in
+          let next : suc (suc start) ≡ start + 2 = omega arith in
+          let tail : slice (suc start) (start + n) ws ≡ t ∷ slice (start + 2) (start + n) ws = at-word ws (suc start) (start + n) (omega arith) (omega arith) ∙ rw (next, d, one) in
+          rw (input, eq-eqb n n refl, le-leb 2 n two)
+          (within-slice 5 start (n - 1) (bodyOf formWord allowedLength packetContent start n) (suc start) (length ws) ws (le-refl (length ws)) (omega arith) ∙ rw (end, tail))
+
+      pub packet-unknown : {k : ℕ} {b after : List ℕ} {r : Opened} → eqb t (tag (formOf t)) ≡ false → r ≡ Refused 6 (start + 1) → OpensPacket ws start k b after r
+      packet-unknown z q =
+          let one : suc start ≡ start + 1 = omega arith in
+          rw q (record { opens = body ∙ rw (z, one); lies = tt })
+
+      known : (f : Form) → t ≡ tag f → packet start (drop start ws) ≡ filled (slice (start + n) (length ws) ws) (restOf f ws start n)
+      known f z =
+          let next : suc (suc start) ≡ start + 2 = omega arith in
+          body ∙ rw (z, form-back f, eq-eqb (tag f) (tag f) refl, next)
+
+      pub packet-known : (f : Form) {k : ℕ} {b after : List ℕ} (r : Opened) → t ≡ tag f → OpensAs f ws start n k b after r → OpensPacket ws start k b after r
+      packet-known f (Refused m p) z o = record { opens = known f z ∙ rw (o .opens); lies = tt }
+      packet-known f {k} {b} (Channels m at e k′) z o =
+          let l = o .opens .1 in
+          let q = o .opens .0 in
+          record {
+            opens = (
+              rw (← d₀) q,
+              record {
+                readable = l .readable;
+                inside = rw (← d₀) (l .inside);
+                few = l .few;
+                leads = ?;
+              },
+            );
+            lies = (omega arith, omega arith);
+          }

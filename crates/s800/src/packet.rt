@@ -1,0 +1,50 @@
+// One packet after the stamp and the event number, up to its channel words.
+use crate::Opened;
+use crate::channel_packets::open_hodoscope;
+use crate::channel_packets::open_ion_chamber;
+use crate::channel_packets::open_object_pin;
+use crate::channel_packets::open_time_of_flight;
+use crate::channel_packets::open_trigger;
+use crate::channel_packets::open_vme_adc;
+use crate::parts::refused;
+use crate::run_packets::open_crdc;
+use crate::run_packets::open_opaque;
+use crate::run_packets::open_scintillator;
+use crate::word::word;
+use event::refusal;
+ghost use Prim.Native.Nat.{_≤_, _<_};
+ghost use lib.ListN.{length as lengthOf};
+ghost use denote.Ref.{now};
+ghost use Rattle.s800.specs.Opening.{OpensPacket};
+
+// Refusals 5 and 6; then the packet's own function goes on with 7.
+pub(crate) fn open_packet(words: &[u16], start: usize, rows: &mut [u32], count: usize) -> Opened
+    requires { ⌜ (start < lengthOf (now words)) × (count ≤ start) ⌝ }
+    ensures { λ r. ⌜ OpensPacket (now (words .entry)) start count (now (rows .entry)) (now (rows .exit)) r ⌝ }
+{
+    let length = word(words, start) as usize;
+    if length < 2 {
+        return refused(refusal::EXTENT, start);
+    }
+    if words.len() - start < length {
+        return refused(refusal::EXTENT, start);
+    }
+    let tag = word(words, start + 1);
+    match tag {
+        0x5801 => open_trigger(words, start, length, rows, count),
+        0x5802 => open_time_of_flight(words, start, length, rows, count),
+        0x5810 => open_scintillator(words, start, length, rows, count),
+        0x5820 => open_ion_chamber(words, start, length, rows, count),
+        0x5840 => open_crdc(words, start, length, rows, count),
+        0x58b0 => open_hodoscope(words, start, length, rows, count),
+        0x58a0 => open_object_pin(words, start, length, rows, count),
+        0x58c0 => open_vme_adc(words, start, length, rows, count),
+        0x5830 => open_opaque(words, start, length, tag, rows, count),
+        0x5850 => open_opaque(words, start, length, tag, rows, count),
+        0x5860 => open_opaque(words, start, length, tag, rows, count),
+        0x5870 => open_opaque(words, start, length, tag, rows, count),
+        0x5880 => open_opaque(words, start, length, tag, rows, count),
+        0x5890 => open_opaque(words, start, length, tag, rows, count),
+        _ => refused(refusal::TAG, start + 1),
+    }
+}
