@@ -28,16 +28,19 @@ use Rattle.s800.specs.Opening.{Standing, restOf, Opens, OpensAs, OpensPa
 
 -- what a packet holds fills it
 rest-ends : (f : Form) (ws : List ℕ) (start n : ℕ) → start + n ≤ length ws → 2 ≤ n → (q : Packet) (j : ℕ) (r : List ℕ) → restOf f ws start n ≡ ok q j r → T (ended r)
-rest-ends f ws start n long two q j r e = go (allowedLength f n) refl (content f start n (start + 2) (slice (start + 2) (start + n) ws)) refl e
+rest-ends f ws start n long two q j r e = go (allowedLength f n) refl e
   where
     size : length (slice (start + 2) (start + n) ws) ≡ n - 2
     size = length-slice (start + 2) (start + n) ws long ∙ (let z : start + n - (start + 2) ≡ n - 2 = omega arith in z)
 
-    go : (b : Bool) → allowedLength f n ≡ b → (x : Result ℕ (Content f)) → content f start n (start + 2) (slice (start + 2) (start + n) ws) ≡ x
-        → then (λ u. λ i s. then (λ c. give (record { form = f; content = c })) x) (cond b (ok tt (start + 2) (slice (start + 2) (start + n) ws)) (refuse 7 start)) ≡ ok q j r → T (ended r)
-    go true a (ok c k t) g h = let u : t ≡ r = cc in rw u at (content-ends f start n a (start + 2) (slice (start + 2) (start + n) ws) c k t size g)
-    go true a (refuse m p) g h = let z : _≡_ {A = ℕ} 0 1 = cc in absurd (omega arith)
-    go false a x g h = let z : _≡_ {A = ℕ} 0 1 = cc in absurd (omega arith)
+    read : allowedLength f n ≡ true → (x : Result ℕ (Content f)) → content f start n (start + 2) (slice (start + 2) (start + n) ws) ≡ x
+        → then (λ c. give (record { form = f; content = c })) x ≡ ok q j r → T (ended r)
+    read a (ok c k t) g h = let u : t ≡ r = cc in rw u at (content-ends f start n a (start + 2) (slice (start + 2) (start + n) ws) c k t size g)
+    read a (refuse m p) g h = let z : _≡_ {A = ℕ} 0 1 = cc in absurd (omega arith)
+
+    go : (b : Bool) → allowedLength f n ≡ b → then (λ (u : Unit {0}). packetContent f start n) (cond b (ok tt (start + 2) (slice (start + 2) (start + n) ws)) (refuse 7 start)) ≡ ok q j r → T (ended r)
+    go true a h = read a (content f start n (start + 2) (slice (start + 2) (start + n) ws)) refl h
+    go false a h = let z : _≡_ {A = ℕ} 0 1 = cc in absurd (omega arith)
 
 module _ (ws : List ℕ) (start : ℕ) {n : ℕ} (below : start < length ws) (d₀ : n ≡ getD ws start 0) where
   input : drop start ws ≡ n ∷ slice (suc start) (length ws) ws
@@ -86,7 +89,7 @@ module _ (ws : List ℕ) (start : ℕ) {n : ℕ} (below : start < length ws) (d�
                 readable = l .readable;
                 inside = rw (← d₀) (l .inside);
                 few = l .few;
-                leads = ?;
+                leads = rw (known f z, ← d₀) (leads-trans (l .leads) (leads-filled packetRows (slice (start + n) (length ws) ws) (restOf f ws start n) k b (rest-ends f ws start n (omega arith) two)));
               },
             );
             lies = (omega arith, omega arith);
