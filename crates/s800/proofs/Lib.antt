@@ -5,4 +5,6 @@ pub mod Opening
 pub mod ChannelPackets
 pub mod SinglePackets
 pub mod RunPackets
+pub mod Extent
 pub mod Packets
+pub mod Beginning

@@ -1,7 +1,6 @@
 -- One packet of the run: from its first word to its form's own words, and to the packet after it. Over plain values.
 -- Assumes nothing.
 use Prim.Native.Nat.{ℕ, zero, suc, _+_, _-_, _≤_, _<_}
-use native.Mathlib.Nat.{le-refl}
 use native.Mathlib.Omega.{arith}
 use mathlib.Core.Path.{_≡_, refl, ap, sym, _∙_}
 use mathlib.Core.Bool.{Bool, true, false, cond}
@@ -9,22 +8,22 @@ use mathlib.Core.List.{List, [], _∷_, _++_}
 use lib.Dec.{T, eqb}
 use lib.ListN.{length, getD, drop}
 use lib.Seq.{slice, length-slice}
-use borrow.Author.Tests.{eq-eqb, ne-eqb, le-leb, lt-leb}
+use borrow.Author.Tests.{eq-eqb}
 use Rattle.event.specs.declared.Answer.{Answer}
 use Rattle.event.specs.declared.Answer.the-variants.{Accepted}
 use Rattle.event.specs.Parser.{Result, ok, refuse, Parser, then, give, ended, filled, several, each, alone}
 use Rattle.event.specs.Scanning.{Scanned, Leads}
 use Rattle.event.proofs.Leads.{leads-trans}
-use Rattle.event.proofs.Loops.{to-the-end, within-slice, within-short, leads-filled}
-use Rattle.event.proofs.Turns.{at-word}
+use Rattle.event.proofs.Loops.{leads-filled}
 use Rattle.s800_layout.specs.Event.{Form, trigger, Content, Packet, tag, formOf}
 use Rattle.s800_layout.specs.Layout.{packetRows}
-use Rattle.s800_layout.specs.Reading.{allowedLength, bodyOf, content, packetContent, formWord, packet}
+use Rattle.s800_layout.specs.Reading.{allowedLength, content, packetContent, formWord, packet}
 use Rattle.s800_layout.proofs.Lengths.{form-back}
 use Rattle.s800_layout.proofs.Filled.{content-ends}
 use Rattle.s800.specs.declared.Opened.{Opened}
 use Rattle.s800.specs.declared.Opened.the-variants.{Channels, Refused}
-use Rattle.s800.specs.Opening.{Standing, restOf, Opens, OpensAs, OpensPacket}
+use Rattle.s800.specs.Opening.{restOf, OpensAs, OpensPacket}
+use Rattle.s800.proofs.Extent.{too-short, too-long, body}
 
 -- what a packet holds fills it
 rest-ends : (f : Form) (ws : List ℕ) (start n : ℕ) → start + n ≤ length ws → 2 ≤ n → (q : Packet) (j : ℕ) (r : List ℕ) → restOf f ws start n ≡ ok q j r → T (ended r)
@@ -43,39 +42,21 @@ rest-ends f ws start n long two q j r e = go (allowedLength f n) refl e
     go false a h = let z : _≡_ {A = ℕ} 0 1 = cc in absurd (omega arith)
 
 module _ (ws : List ℕ) (start : ℕ) {n : ℕ} (below : start < length ws) (d₀ : n ≡ getD ws start 0) where
-  input : drop start ws ≡ n ∷ slice (suc start) (length ws) ws
-  input = to-the-end start ws ∙ at-word ws start (length ws) below (le-refl (length ws)) ∙ rw d₀
-
   pub packet-short : {k : ℕ} {b after : List ℕ} {r : Opened} → n < 2 → r ≡ Refused 5 start → OpensPacket ws start k b after r
-  packet-short h q = rw q (record { opens = rw (input, eq-eqb n n refl, lt-leb 2 n h); lies = tt })
+  packet-short h q = rw q (record { opens = too-short formWord allowedLength packetContent ws start below d₀ h; lies = tt })
 
   module _ (two : 2 ≤ n) where
     pub packet-long : {k : ℕ} {b after : List ℕ} {r : Opened} → length ws - start < n → r ≡ Refused 5 start → OpensPacket ws start k b after r
-    packet-long h q = rw q (record {
-      opens = rw (input, eq-eqb n n refl, le-leb 2 n two)
-          (within-short 5 start (n - 1) (bodyOf formWord allowedLength packetContent start n) (suc start) (length ws) ws (le-refl (length ws)) (omega arith) (omega arith));
-      lies = tt;
-    })
+    packet-long h q = rw q (record { opens = too-long formWord allowedLength packetContent ws start below d₀ two h; lies = tt })
 
     module _ (inside : n ≤ length ws - start) {t : ℕ} (d : t ≡ getD ws (start + 1) 0) where
-      body : packet start (drop start ws) ≡ filled (slice (start + n) (length ws) ws) (bodyOf formWord allowedLength packetContent start n (suc start) (t ∷ slice (start + 2) (start + n) ws))
-      body =
-          let end : suc start + (n - 1) ≡ start + n = omega arith in
-          let one : suc start ≡ start + 1 = omega arith in
-          let next : suc (suc start) ≡ start + 2 = omega arith in
-          let tail : slice (suc start) (start + n) ws ≡ t ∷ slice (start + 2) (start + n) ws = at-word ws (suc start) (start + n) (omega arith) (omega arith) ∙ rw (next, d, one) in
-          rw (input, eq-eqb n n refl, le-leb 2 n two)
-          (within-slice 5 start (n - 1) (bodyOf formWord allowedLength packetContent start n) (suc start) (length ws) ws (le-refl (length ws)) (omega arith) ∙ rw (end, tail))
-
       pub packet-unknown : {k : ℕ} {b after : List ℕ} {r : Opened} → eqb t (tag (formOf t)) ≡ false → r ≡ Refused 6 (start + 1) → OpensPacket ws start k b after r
-      packet-unknown z q =
-          let one : suc start ≡ start + 1 = omega arith in
-          rw q (record { opens = body ∙ rw (z, one); lies = tt })
+      packet-unknown z q = rw q (record { opens = body formWord allowedLength packetContent ws start below d₀ two inside d ∙ rw z; lies = tt })
 
       known : (f : Form) → t ≡ tag f → packet start (drop start ws) ≡ filled (slice (start + n) (length ws) ws) (restOf f ws start n)
       known f z =
-          let next : suc (suc start) ≡ start + 2 = omega arith in
-          body ∙ rw (z, form-back f, eq-eqb (tag f) (tag f) refl, next)
+          let next : suc (start + 1) ≡ start + 2 = omega arith in
+          body formWord allowedLength packetContent ws start below d₀ two inside d ∙ rw (z, form-back f, eq-eqb (tag f) (tag f) refl, next)
 
       pub packet-known : (f : Form) {k : ℕ} {b after : List ℕ} (r : Opened) → t ≡ tag f → OpensAs f ws start n k b after r → OpensPacket ws start k b after r
       packet-known f (Refused m p) z o = record { opens = known f z ∙ rw (o .opens); lies = tt }

@@ -1,2 +1,3 @@
 pub mod Channel
 pub mod Opening
+pub mod Head
