@@ -161,7 +161,7 @@ module _ (o : StampOrder) (ws : List ℕ) {k : ℕ} (framed : frameOf ws ≡ Acc
       pub begins : {before b₁ after : List ℕ} → b₁ ≡ storeRows before 0 (stampRows o ws) → after ≡ storeRows b₁ 2 (numberRows ws) → Begins o ws before after (Accepted 4)
       begins {before} p q = record {
         begun = (
-          refl,
+          omega arith,
           least,
           rw (q, p, from-frame, stamp-read, number-read, then-then {C = Event} (several packet ended 14 (drop 14 ws)) runOf (λ r. record { stamp = stampAt ws; number = numberAt ws; run = r }))
               (leads-part (stampRows o ws ++ numberRows ws) (each packetRows) (several packet ended 14 (drop 14 ws))

@@ -21,9 +21,12 @@ module _ (m : Format) (readable : Readable m) {w : ℕ} (fits : w < 2 ^ 16) wher
   low : channelOf m w < 16
   low = readable .narrow w fits
 
+  pub low-bit : {channel : ℕ} → channel ≡ channelOf m w → channel % 32 ≡ channelOf m w
+  low-bit {channel} e = let l = low in let f : channel % 32 ≡ channel = omega arith in f ∙ e
+
   module _ (seen : ℕ) {channel : ℕ} (e : channel ≡ channelOf m w) where
     bit : channel % 32 ≡ channelOf m w
-    bit = let l = low in let f : channel % 32 ≡ channel = omega arith in f ∙ e
+    bit = low-bit e
 
     pub fault-none : true ≡ present (m .allowed) (channel % 32) → false ≡ present seen (channel % 32) → 0 ≡ faultOf m seen w
     unfolding faultOf

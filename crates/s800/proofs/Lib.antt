@@ -8,3 +8,4 @@ pub mod RunPackets
 pub mod Extent
 pub mod Packets
 pub mod Beginning
+pub mod Reading

@@ -61,7 +61,7 @@ numberRows ws = row 1 numberTag 0 0 ∷ numberRow (numberAt ws) ∷ []
 -- the first 14 words are refused; or the scan of the packets after them ends as that of the event does
 abbrev pub Begun : StampOrder → List ℕ → List ℕ → List ℕ → Answer → Type 0
 Begun o ws before after (Accepted k) =
-    (k ≡ 4) × (14 ≤ length ws) × Leads (each packetRows) (several packet ended 14 (drop 14 ws)) 4 after (rows o) (eventParser (length ws) 0 ws) 0 before
+    (k ≤ 14) × (14 ≤ length ws) × Leads (each packetRows) (several packet ended 14 (drop 14 ws)) k after (rows o) (eventParser (length ws) 0 ws) 0 before
 Begun o ws before after (Refused n p) = eventParser (length ws) 0 ws ≡ refuse n p
 
 pub record Begins (o : StampOrder) (ws : List ℕ) (before after : List ℕ) (r : Answer) : Type 0 where

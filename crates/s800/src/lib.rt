@@ -6,6 +6,7 @@ mod head;
 mod packet;
 mod parts;
 mod run_packets;
+mod scan;
 mod word;
 
 use event::Answer;
