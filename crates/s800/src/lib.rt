@@ -9,6 +9,7 @@ mod run_packets;
 mod scan;
 mod word;
 
+use crate::scan::scan;
 use event::Answer;
 use event::StampOrder;
 use event::refusal;
@@ -49,4 +50,23 @@ pub fn pad(channel: u16, connector: u16) -> u32
     ensures { λ r. ⌜ r ≡ pad channel connector ⌝ }
 {
     channel as u32 + 64 * connector as u32
+}
+
+// Reads one event into rows, four elements each. A refused reading leaves every element as it was.
+pub fn read(words: &[u16], order: StampOrder, rows: &mut [u32]) -> Answer
+    ensures answer { λ r. ⌜ r ≡ answerOf (readingInto (room (length (now (rows .entry)))) order (now (words .entry))) ⌝ }
+    ensures buffer { λ _. ⌜ now (rows .exit) ≡ overlaid (flat (given (readingInto (room (length (now (rows .entry)))) order (now (words .entry))))) (now (rows .entry)) ⌝ }
+{
+    let mut none = [0u32; 1];
+    let checked = scan(words, order, &mut none);
+    let Answer::Accepted(count) = checked else {
+        return checked;
+    };
+    if rows.len() / 4 < count {
+        return Answer::Refused {
+            number: refusal::ROOM,
+            place: count,
+        };
+    }
+    scan(words, order, rows)
 }
