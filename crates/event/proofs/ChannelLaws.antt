@@ -1,7 +1,7 @@
--- A set of channels as bits, beside lists of channels: those allowed, and those seen before. The laws hold at every width.
+-- A set of channels as bits, beside lists of channels: those barred, and those seen before. The laws hold at every width.
 -- Assumes nothing.
 use Prim.Native.Nat.{ℕ, zero, suc, _+_, _*_, _/_, _%_, _^_, _-_, _≤_, _<_}
-use native.Mathlib.Nat.{div-eq-of-lt, div-self, pow-suc, mul-mod-left, zero-div}
+use native.Mathlib.Nat.{div-eq-of-lt, div-self, pow-suc, mul-mod-left}
 use native.Mathlib.Omega.{arith}
 use mathlib.Core.Path.{_≡_, refl, sym, ap, _∙_}
 use mathlib.Core.Bool.{Bool, true, false, cond, not, _&&_, _||_}
@@ -11,7 +11,7 @@ use lib.Pow.{pow-pos, pow-lt, pow-add, shl-shr}
 use lib.Bits.{bitOr, or-shr, or-mod}
 use borrow.Author.Tests.{eq-eqb, ne-eqb, eqb-true, eqb-false, ltb-true, ltb-false}
 use Rattle.event.specs.Parser.{fresh, member}
-use Rattle.event.specs.Channels.{present, insert, channelsFrom}
+use Rattle.event.specs.Channels.{present, insert, others}
 
 bit-self : (k : ℕ) → 2 ^ k / 2 ^ k % 2 ≡ 1
 bit-self k = let p : 2 ^ k / 2 ^ k ≡ 1 = div-self (pow-pos k) in rw p
@@ -51,42 +51,47 @@ present-insert set j k =
     rw (or-shr set (2 ^ j) k, or-mod (set / 2 ^ k) (2 ^ j / 2 ^ k) 1)
     (or-bit (set / 2 ^ k % 2) (2 ^ j / 2 ^ k % 2) (omega arith) (omega arith) ∙ rw (bit j k))
 
--- the set holds the channels seen
-pub record Seen (set : ℕ) (seen : List ℕ) : Type 0 where
-  pub holds : (k : ℕ) → present set k ≡ not (fresh k seen)
+-- the set holds the channels that are barred, and those seen
+pub record Blocked (barred set : ℕ) (seen : List ℕ) : Type 0 where
+  pub holds : (k : ℕ) → present set k ≡ present barred k || not (fresh k seen)
 
-pub seen-none : Seen 0 []
-unfolding present
-seen-none = record { holds = λ k. rw zero-div }
+or-false : (b : Bool) → b ≡ b || false
+or-false true = refl
+or-false false = refl
 
-swap : (j k : ℕ) (x : Bool) → eqb j k || not x ≡ not (not (eqb k j) && x)
-swap j k x = go (eqb j k) refl
+pub blocked-none : {barred : ℕ} → Blocked barred barred []
+blocked-none {barred} = record { holds = λ k. or-false (present barred k) }
+
+-- one more is seen
+swap : (j k : ℕ) (a x : Bool) → eqb j k || (a || not x) ≡ a || not (not (eqb k j) && x)
+swap j k a x = go (eqb j k) refl a x
   where
-    go : (b : Bool) → eqb j k ≡ b → eqb j k || not x ≡ not (not (eqb k j) && x)
-    go true e = rw (e, eq-eqb k j (sym (eqb-true j k e)))
-    go false e = rw (e, ne-eqb k j (λ h. eqb-false j k e (sym h)))
+    go : (b : Bool) → eqb j k ≡ b → (a x : Bool) → eqb j k || (a || not x) ≡ a || not (not (eqb k j) && x)
+    go true e true x = rw e
+    go true e false x = rw (e, eq-eqb k j (sym (eqb-true j k e)))
+    go false e a x = rw (e, ne-eqb k j (λ h. eqb-false j k e (sym h)))
 
-pub seen-more : {set : ℕ} {seen : List ℕ} (j : ℕ) → Seen set seen → Seen (insert set j) (j ∷ seen)
-seen-more {set} {seen} j s = record { holds = λ k. present-insert set j k ∙ ap (eqb j k ||_) (s .holds k) ∙ swap j k (fresh k seen) }
+pub blocked-more : {barred set : ℕ} {seen : List ℕ} (j : ℕ) → Blocked barred set seen → Blocked barred (insert set j) (j ∷ seen)
+blocked-more {barred} {set} {seen} j s =
+    record { holds = λ k. present-insert set j k ∙ ap (eqb j k ||_) (s .holds k) ∙ swap j k (present barred k) (fresh k seen) }
 
--- among the channels of a set are those that are in it, of the n from c on
-none-below : (set c n k : ℕ) → k < c → member k (channelsFrom c n set) ≡ false
-unfolding channelsFrom
+none-below : (set c n k : ℕ) → k < c → member k (others c n set) ≡ false
+unfolding others
 none-below set c zero k h = refl
 none-below set c (suc n) k h = go (present set c) (none-below set (suc c) n k (omega arith))
   where
-    go : (b : Bool) → member k (channelsFrom (suc c) n set) ≡ false → member k (cond b (c ∷ channelsFrom (suc c) n set) (channelsFrom (suc c) n set)) ≡ false
-    go true e = rw (ne-eqb k c (λ p. omega arith), e)
-    go false e = e
+    go : (b : Bool) → member k (others (suc c) n set) ≡ false → member k (cond b (others (suc c) n set) (c ∷ others (suc c) n set)) ≡ false
+    go true e = e
+    go false e = rw (ne-eqb k c (λ p. omega arith), e)
 
-pub among : (set c n k : ℕ) → c ≤ k → k < c + n → member k (channelsFrom c n set) ≡ present set k
-unfolding channelsFrom
+pub among : (set c n k : ℕ) → c ≤ k → k < c + n → member k (others c n set) ≡ not (present set k)
+unfolding others
 among set c zero k l h = absurd (omega arith)
 among set c (suc n) k l h = go (λ m. among set (suc c) n k m (omega arith)) (eqb k c) refl (present set c) refl
   where
-    go : (suc c ≤ k → member k (channelsFrom (suc c) n set) ≡ present set k) → (a : Bool) → eqb k c ≡ a → (b : Bool) → present set c ≡ b
-        → member k (cond b (c ∷ channelsFrom (suc c) n set) (channelsFrom (suc c) n set)) ≡ present set k
-    go ih true e true p = rw (e, eqb-true k c e) (sym p)
-    go ih true e false p = rw (eqb-true k c e) (none-below set (suc c) n c (omega arith) ∙ sym p)
-    go ih false e true p = let d = eqb-false k c e in rw e (ih (omega arith))
-    go ih false e false p = let d = eqb-false k c e in ih (omega arith)
+    go : (suc c ≤ k → member k (others (suc c) n set) ≡ not (present set k)) → (a : Bool) → eqb k c ≡ a → (b : Bool) → present set c ≡ b
+        → member k (cond b (others (suc c) n set) (c ∷ others (suc c) n set)) ≡ not (present set k)
+    go ih true e true p = rw (eqb-true k c e, p) (none-below set (suc c) n c (omega arith))
+    go ih true e false p = rw (e, eqb-true k c e, p)
+    go ih false e true p = let d = eqb-false k c e in ih (omega arith)
+    go ih false e false p = let d = eqb-false k c e in rw e (ih (omega arith))

@@ -14,7 +14,7 @@ present set k = eqb (set / 2 ^ k % 2) 1
 unfoldable pub insert : ℕ → ℕ → ℕ
 insert set k = bitOr set (2 ^ k)
 
--- the channels of a set: n of them are looked at, from c on
-unfoldable pub channelsFrom : (c n : ℕ) → ℕ → List ℕ
-channelsFrom c zero set = []
-channelsFrom c (suc n) set = cond (present set c) (c ∷ channelsFrom (suc c) n set) (channelsFrom (suc c) n set)
+-- of the n channels from c on, those that are not in the set
+unfoldable pub others : (c n : ℕ) → ℕ → List ℕ
+others c zero set = []
+others c (suc n) set = cond (present set c) (others (suc c) n set) (c ∷ others (suc c) n set)

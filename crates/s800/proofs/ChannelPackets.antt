@@ -13,7 +13,7 @@ use Rattle.event.specs.Parser.{Result, ok, refuse, then, _>>_, give, ended, man
 use Rattle.event.specs.Rows.{row}
 use Rattle.event.specs.Words.{exactly}
 use Rattle.event.specs.Scanning.{storeRows}
-use Rattle.event.specs.Channels.{present, channelsFrom}
+use Rattle.event.specs.Channels.{present, others}
 use Rattle.event.proofs.Ends.{ends-many}
 use Rattle.event.proofs.Leads.{then-then}
 use Rattle.event.proofs.Loops.{filled-nil}
@@ -23,41 +23,35 @@ use Rattle.s800_layout.specs.Layout.{channels}
 use Rattle.s800_layout.specs.Reading.{datum, channelWords}
 use Rattle.s800.specs.declared.Opened.{Opened}
 use Rattle.s800.specs.declared.Opened.the-variants.{Channels, Refused}
-use Rattle.s800.specs.Channel.{formatOf, Readable, timesFormat, energiesFormat, adcFormat}
+use Rattle.s800.specs.Channel.{formatOf, timesFormat, energiesFormat, adcFormat}
 use Rattle.s800.specs.Opening.{Standing, restOf, OpensAs}
 use Rattle.s800.proofs.Inner.{inner-length, inner-tag, inner-read}
-use Rattle.s800.proofs.Opening.{is-between, energies-readable, opens-refused, opens-channels, last-rows}
+use Rattle.s800.proofs.Opening.{is-between, opens-refused, opens-channels, last-rows}
 
-times-readable : (allowed : ℕ) → Readable (timesFormat allowed)
-times-readable allowed = record { bits = omega arith; base = omega arith; narrow = λ w h. omega arith }
-
-adc-readable : (base : ℕ) → base < 2 ^ 16 → Readable (adcFormat base)
-adc-readable base h = record { bits = omega arith; base = h; narrow = λ w h. omega arith }
-
--- the sets of bits are the channels of the layout
-trigger-format : formatOf (timesFormat 0x0f00) ≡ triggerTime
-unfolding present channelsFrom
+-- the channels that the sets of bits leave are those of the layout
+trigger-format : formatOf (timesFormat 0xf0ff) ≡ triggerTime
+unfolding present others
 trigger-format = refl
 
-flight-format : formatOf (timesFormat 0xf0f0) ≡ flightTime
-unfolding present channelsFrom
+flight-format : formatOf (timesFormat 0x0f0f) ≡ flightTime
+unfolding present others
 flight-format = refl
 
 pub energies-format : (base : ℕ) → formatOf (energiesFormat base) ≡ energy16
-unfolding present channelsFrom
+unfolding present others
 energies-format base = refl
 
 adc-format : (base : ℕ) → formatOf (adcFormat base) ≡ adcEnergy
-unfolding present channelsFrom
+unfolding present others
 adc-format base = refl
 
 module _ {ws : List ℕ} {start n k : ℕ} (s : Standing ws start n k) where
   pub flight-opens : {b after : List ℕ} → n ≤ 10 → after ≡ storeRows b k (row 1 0x5802 0 0 ∷ [])
-      → OpensAs timeOfFlight ws start n k b after (Channels (timesFormat 0xf0f0) (start + 2) (start + n) (k + 1))
+      → OpensAs timeOfFlight ws start n k b after (Channels (timesFormat 0x0f0f) (start + 2) (start + n) (k + 1))
   flight-opens high q =
       let few = s .few in
       let two = s .two in
-      opens-channels timeOfFlight (row 1 0x5802 0 0 ∷ []) (timesFormat 0xf0f0) (λ xs. xs) (times-readable 0xf0f0) flight-format (omega arith) (omega arith)
+      opens-channels timeOfFlight (row 1 0x5802 0 0 ∷ []) (timesFormat 0x0f0f) (λ xs. xs) (omega arith) flight-format (omega arith) (omega arith)
       (rw (is-between 2 10 n two high)) (λ xs. last-rows 5 0 (row 1 0x5802 0 0 ∷ []) xs) q
 
   -- forms whose first word after the tag is a pattern or an id
@@ -74,11 +68,11 @@ module _ {ws : List ℕ} {start n k : ℕ} (s : Standing ws start n k) where
     trigger-pattern high h q = opens-refused trigger q (rw (is-between 3 7 n low high, first-word, eq-eqb w w refl, le-ltb w (2 ^ 5) (omega arith)))
 
     pub trigger-opens : {b after : List ℕ} → n ≤ 7 → w ≤ 31 → after ≡ storeRows b k (row 1 0x5801 0 0 ∷ row 4 0 0 w ∷ [])
-        → OpensAs trigger ws start n k b after (Channels (timesFormat 0x0f00) (start + 3) (start + n) (k + 2))
+        → OpensAs trigger ws start n k b after (Channels (timesFormat 0xf0ff) (start + 3) (start + n) (k + 2))
     trigger-opens high h q =
         let few = s .few in
-        opens-channels trigger (row 1 0x5801 0 0 ∷ row 4 0 0 w ∷ []) (timesFormat 0x0f00) (λ xs. record { pattern = w; times = xs })
-        (times-readable 0x0f00) trigger-format (omega arith) (omega arith)
+        opens-channels trigger (row 1 0x5801 0 0 ∷ row 4 0 0 w ∷ []) (timesFormat 0xf0ff) (λ xs. record { pattern = w; times = xs })
+        (omega arith) trigger-format (omega arith) (omega arith)
         (rw (is-between 3 7 n low high, first-word, eq-eqb w w refl, lt-ltb w (2 ^ 5) (omega arith), three)
         (then-then (channelWords triggerTime (start + 3) (slice (start + 3) (start + n) ws)) _ _))
         (λ xs. last-rows 5 0 (row 1 0x5801 0 0 ∷ row 4 0 0 w ∷ []) xs) q
@@ -90,7 +84,7 @@ module _ {ws : List ℕ} {start n k : ℕ} (s : Standing ws start n k) where
         → OpensAs hodoscope ws start n k b after (Channels (energiesFormat (16 * w)) (start + 3) (start + n) (k + 1))
     hodoscope-opens high h z q =
         let few = s .few in
-        opens-channels hodoscope (row 1 0x58b0 w 0 ∷ []) (energiesFormat (16 * w)) (energies w) (energies-readable (16 * w) (omega arith)) (energies-format (16 * w)) (omega arith) (omega arith)
+        opens-channels hodoscope (row 1 0x58b0 w 0 ∷ []) (energiesFormat (16 * w)) (energies w) (omega arith) (energies-format (16 * w)) (omega arith) (omega arith)
         (rw (is-between 3 19 n low high, first-word, eq-eqb w w refl, le-leb w 2 h, ne-eqb w 2 z, three)
         (then-then (channelWords energy16 (start + 3) (slice (start + 3) (start + n) ws)) _ _))
         (λ xs. last-rows 6 (16 * w) (row 1 0x58b0 w 0 ∷ []) xs) q
@@ -102,7 +96,7 @@ module _ {ws : List ℕ} {start n k : ℕ} (s : Standing ws start n k) where
         → OpensAs vmeAdc ws start n k b after (Channels (adcFormat (8 * w)) (start + 3) (start + n) (k + 1))
     adc-opens high h q =
         let few = s .few in
-        opens-channels vmeAdc (row 1 0x58c0 w 0 ∷ []) (adcFormat (8 * w)) (λ xs. record { id = w; energies = xs }) (adc-readable (8 * w) (omega arith)) (adc-format (8 * w)) (omega arith) (omega arith)
+        opens-channels vmeAdc (row 1 0x58c0 w 0 ∷ []) (adcFormat (8 * w)) (λ xs. record { id = w; energies = xs }) (omega arith) (adc-format (8 * w)) (omega arith) (omega arith)
         (rw (is-between 3 11 n low high, first-word, eq-eqb w w refl, le-leb w 3 h, three)
         (then-then (channelWords adcEnergy (start + 3) (slice (start + 3) (start + n) ws)) _ _))
         (λ xs. last-rows 6 (8 * w) (row 1 0x58c0 w 0 ∷ []) xs) q
@@ -145,5 +139,5 @@ module _ {ws : List ℕ} {start n k : ℕ} (s : Standing ws start n k) where
           → OpensAs ionChamber ws start n k b after (Channels (energiesFormat 0) (start + 4) (start + n) (k + 1))
       chamber-opens z q =
           let few = s .few in
-          opens-channels ionChamber (row 1 0x5820 0 0 ∷ []) (energiesFormat 0) (λ xs. xs) (energies-readable 0 (omega arith)) (energies-format 0) (omega arith) (omega arith)
+          opens-channels ionChamber (row 1 0x5820 0 0 ∷ []) (energiesFormat 0) (λ xs. xs) (omega arith) (energies-format 0) (omega arith) (omega arith)
           (inner-words z) (λ xs. last-rows 6 0 (row 1 0x5820 0 0 ∷ []) xs) q

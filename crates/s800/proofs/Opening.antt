@@ -14,7 +14,6 @@ use Rattle.event.specs.declared.Row.{Row}
 use Rattle.event.specs.Parser.{Result, ok, refuse, then, give, each}
 use Rattle.event.specs.Rows.{row}
 use Rattle.event.specs.Scanning.{storeRows, Scanned}
-use Rattle.event.specs.Channels.{present, channelsFrom}
 use Rattle.event.proofs.Elements.{each-map}
 use Rattle.event.proofs.Leads.{leads-part, leads-done}
 use Rattle.event.proofs.Turns.{at-word}
@@ -24,7 +23,7 @@ use Rattle.s800_layout.specs.Reading.{between, allowedLength, channelWords}
 use Rattle.s800.specs.declared.Format.{Format}
 use Rattle.s800.specs.declared.Opened.{Opened}
 use Rattle.s800.specs.declared.Opened.the-variants.{Channels, Refused}
-use Rattle.s800.specs.Channel.{formatOf, channelRows, Readable, energiesFormat}
+use Rattle.s800.specs.Channel.{formatOf, channelRows, energiesFormat}
 use Rattle.s800.specs.Opening.{Standing, restOf, OpensAs}
 
 -- a length within its bounds, or not
@@ -50,9 +49,6 @@ module _ {ws : List ℕ} {start n k : ℕ} (s : Standing ws start n k) (low high
 pub is-between : (low high n : ℕ) → low ≤ n → n ≤ high → between low high n ≡ true
 is-between low high n a b = rw (le-leb low n a, le-leb n high b)
 
-pub energies-readable : (base : ℕ) → base < 2 ^ 16 → Readable (energiesFormat base)
-energies-readable base h = record { bits = omega arith; base = h; narrow = λ w h. omega arith }
-
 -- refusal m at place p
 pub opens-refused : (f : Form) {ws : List ℕ} {start n k : ℕ} {b after : List ℕ} {r : Opened} {m p : ℕ} → r ≡ Refused m p → restOf f ws start n ≡ refuse m p
     → OpensAs f ws start n k b after r
@@ -64,17 +60,17 @@ wrong-length f h e = opens-refused f e (rw h)
 
 -- the rows `before` are stored, and channel words are left
 pub opens-channels : (f : Form) {ws : List ℕ} {start n k : ℕ} {b after : List ℕ} (before : List Row) (m : Format) {q : ChannelFormat} (g : List Datum → Content f) {at : ℕ}
-    → Readable m → formatOf m ≡ q → at ≤ start + n → k + length before ≤ at
+    → m .base < 2 ^ 16 → formatOf m ≡ q → at ≤ start + n → k + length before ≤ at
     → restOf f ws start n ≡ then (λ xs. give (record { form = f; content = g xs })) (channelWords q at (slice at (start + n) ws))
     → ((xs : List Datum) → packetRows (record { form = f; content = g xs }) ≡ before ++ each (channelRows m) xs) → after ≡ storeRows b k before
     → OpensAs f ws start n k b after (Channels m at (start + n) (k + length before))
-opens-channels f {ws} {start} {n} {k} {b} before m {q} g {at} readable same within few e rows s =
+opens-channels f {ws} {start} {n} {k} {b} before m {q} g {at} low same within few e rows s =
     let i : restOf f ws start n ≡ then (λ xs. give (record { form = f; content = g xs })) (channelWords (formatOf m) at (slice at (start + n) ws)) = rw same e in
     record {
       opens = (
         refl,
         record {
-          readable = readable;
+          base = low;
           inside = within;
           few = few;
           leads = rw (i, s) (leads-part before (each (channelRows m)) (channelWords (formatOf m) at (slice at (start + n) ws)) (λ xs. record { form = f; content = g xs }) packetRows k b rows);
@@ -89,7 +85,7 @@ opens-complete f {ws} {start} {n} {k} {k′} {b} {after} s few q = rw q (record 
   opens = (
     refl,
     record {
-      readable = energies-readable 0 (omega arith);
+      base = omega arith;
       inside = omega arith;
       few = few;
       leads = leads-done (each (channelRows (energiesFormat 0))) {a = []} {j = start + n} {r = []} (rw (slice-empty (start + n) ws)) refl s;

@@ -67,7 +67,7 @@ module _ (ws : List ℕ) (start : ℕ) {n : ℕ} (below : start < length ws) (d�
             opens = (
               rw (← d₀) q,
               record {
-                readable = l .readable;
+                base = l .base;
                 inside = rw (← d₀) (l .inside);
                 few = l .few;
                 leads = rw (known f z, ← d₀) (leads-trans (l .leads) (leads-filled packetRows (slice (start + n) (length ws) ws) (restOf f ws start n) k b (rest-ends f ws start n (omega arith) two)));

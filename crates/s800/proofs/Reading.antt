@@ -17,7 +17,7 @@ use Rattle.event.specs.Parser.{Result, ok, refuse, ended, several, each, alone}
 use Rattle.event.specs.Channels.{insert}
 use Rattle.event.specs.Rows.{storeRow}
 use Rattle.event.specs.Scanning.{storeRows, Scanned}
-use Rattle.event.proofs.ChannelLaws.{Seen, seen-more}
+use Rattle.event.proofs.ChannelLaws.{Blocked, blocked-more}
 use Rattle.event.proofs.Codes.{Codes}
 use Rattle.event.proofs.Ends.{placed}
 use Rattle.event.proofs.Leads.{refused-scan, scanned-refuse}
@@ -30,7 +30,7 @@ use Rattle.s800_layout.proofs.Words.{codes-datum, codes-packet}
 use Rattle.s800.specs.declared.Format.{Format}
 use Rattle.s800.specs.declared.Opened.{Opened}
 use Rattle.s800.specs.declared.Opened.the-variants.{Channels, Refused}
-use Rattle.s800.specs.Channel.{formatOf, channelOf, faultOf, channelRow, channelRows, Readable}
+use Rattle.s800.specs.Channel.{formatOf, channelOf, faultOf, channelRow, channelRows}
 use Rattle.s800.specs.Head.{Begins}
 use Rattle.s800.specs.Opening.{OpensPacket}
 use Rattle.s800.proofs.Channels.{judged, low-bit}
@@ -86,28 +86,28 @@ module _ {ws : List ℕ} {i₀ k₀ i k : ℕ} {b₀ b : List ℕ} (h : Packets 
             let f : packet i (slice i (length ws) ws) ≡ ok x e (slice e (length ws) ws) = rw (← to-the-end i ws, end) (packet-end ws i below x j l c) in
             step (λ u. codes-packet) (λ u q g r. refl) h below (le-refl (length ws)) f tt inside few g (t .stored) same
 
--- the loop over the channel words of a packet; `seen` holds the channels before
+-- the loop over the channel words of a packet; `blocked` holds the barred channels, and those before
 abbrev pub ChannelRun : Format → ℕ → List ℕ → ℕ → ℕ → ℕ → List ℕ → ℕ → ℕ → List ℕ → Type 0
-ChannelRun m seen ws end = Reached (datum (formatOf m)) channels (channelRows m) (Seen seen) ws end []
+ChannelRun m blocked ws end = Reached (datum (formatOf m)) channels (channelRows m) (Blocked (m .barred) blocked) ws end []
 
-module _ {m : Format} {seen : ℕ} {ws : List ℕ} {end i₀ k₀ i k : ℕ} {b₀ b : List ℕ} (h : ChannelRun m seen ws end i₀ k₀ b₀ i k b) (readable : Readable m) (below : i < end)
+module _ (m : Format) {blocked : ℕ} {ws : List ℕ} {end i₀ k₀ i k : ℕ} {b₀ b : List ℕ} (h : ChannelRun m blocked ws end i₀ k₀ b₀ i k b) (below : i < end)
     (long : end ≤ length ws) {w : ℕ} (e : w ≡ getD ws i 0) (fits : w < 2 ^ 16) where
-  word : datum (formatOf m) (h .state) i (slice i end ws) ≡ cond (eqb (faultOf m seen w) 0) (ok (datumOf (formatOf m) w) (suc i) (slice (suc i) end ws)) (refuse (faultOf m seen w) i)
+  word : datum (formatOf m) (h .state) i (slice i end ws) ≡ cond (eqb (faultOf m blocked w) 0) (ok (datumOf (formatOf m) w) (suc i) (slice (suc i) end ws)) (refuse (faultOf m blocked w) i)
   word =
       let c : slice i end ws ≡ w ∷ slice (suc i) end ws = at-word ws i end below long ∙ rw e in
-      ap (datum (formatOf m) (h .state) i) c ∙ judged m readable fits (h .holds) i (slice (suc i) end ws)
+      ap (datum (formatOf m) (h .state) i) c ∙ judged m fits (h .holds) i (slice (suc i) end ws)
 
-  pub word-refused : {n : ℕ} (after : List ℕ) → n ≡ faultOf m seen w → (n ≡ 0 → ⊥)
+  pub word-refused : {n : ℕ} (after : List ℕ) → n ≡ faultOf m blocked w → (n ≡ 0 → ⊥)
       → Scanned (each (channelRows m)) (channelWords (formatOf m) i₀ (slice i₀ end ws)) k₀ b₀ (answer.Refused n i) after
   word-refused {n} after f z = stop (codes-datum (formatOf m)) (λ u d g r. refl) h below long after (word ∙ rw (← f, ne-eqb n 0 z))
 
-  pub word-taken : {channel seen′ : ℕ} {b′ : List ℕ} → 0 ≡ faultOf m seen w → channel ≡ channelOf m w → seen′ ≡ insert seen (channel % 32)
-      → b′ ≡ storeRow b k (channelRow m (datumOf (formatOf m) w)) → length b′ ≡ length b → ChannelRun m seen′ ws end i₀ k₀ b₀ (i + 1) (k + 1) b′
+  pub word-taken : {channel blocked′ : ℕ} {b′ : List ℕ} → 0 ≡ faultOf m blocked w → channel ≡ channelOf m w → blocked′ ≡ insert blocked (channel % 32)
+      → b′ ≡ storeRow b k (channelRow m (datumOf (formatOf m) w)) → length b′ ≡ length b → ChannelRun m blocked′ ws end i₀ k₀ b₀ (i + 1) (k + 1) b′
   word-taken f c s q z =
       let few = h .few in
       let one : suc i ≡ i + 1 = omega arith in
       let t : datum (formatOf m) (h .state) i (slice i end ws) ≡ ok (datumOf (formatOf m) w) (i + 1) (slice (i + 1) end ws) = word ∙ rw (← f, one) in
-      step (codes-datum (formatOf m)) (λ u d g r. refl) h below long t (rw (s, low-bit m readable fits c) (seen-more (channelOf m w) (h .holds))) (omega arith) (omega arith) refl q z
+      step (codes-datum (formatOf m)) (λ u d g r. refl) h below long t (rw (s, low-bit m fits c) (blocked-more (channelOf m w) (h .holds))) (omega arith) (omega arith) refl q z
 
 -- the first 14 words, then the packets
 module _ {o : StampOrder} {ws before b : List ℕ} {r : Answer} {k : ℕ} (s : Begins o ws before b r) (q : r ≡ answer.Accepted k) where

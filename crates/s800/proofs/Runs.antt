@@ -13,16 +13,16 @@ use borrow.Author.Tests.{eq-eqb, ne-eqb, lt-ltb, le-ltb}
 use Rattle.event.specs.declared.Answer.{Answer}
 use Rattle.event.specs.declared.Answer.the-variants.{Accepted, Refused}
 use Rattle.event.specs.Parser.{Result, ok, refuse, then, ended, many, several, each, alone}
-use Rattle.event.specs.Channels.{present, insert, channelsFrom}
+use Rattle.event.specs.Channels.{present, insert, others}
 use Rattle.event.specs.Rows.{row, storeRow}
 use Rattle.event.specs.Scanning.{storeRows, Scanned}
-use Rattle.event.proofs.ChannelLaws.{Seen, seen-more}
+use Rattle.event.proofs.ChannelLaws.{Blocked, blocked-more}
 use Rattle.event.proofs.Turns.{Reached, at-word, step, stop}
 use Rattle.s800_layout.specs.Event.{Datum, Pair, ChannelFormat, pairEnergy}
 use Rattle.s800_layout.specs.Layout.{channelWord, sampleHeadWord, sampleDatumWord, sampleRow, pairRows, pairChannels}
 use Rattle.s800_layout.specs.Reading.{whole, datumOf, datum, pair, sampleHeadOf, sampleDatumOf, sample}
 use Rattle.s800_layout.proofs.Words.{codes-whole, codes-pair, codes-sample}
-use Rattle.s800.specs.Channel.{formatOf, faultOf, Readable, opaqueRows, sampleRows, sampleOf, pairOf, pairFormat}
+use Rattle.s800.specs.Channel.{formatOf, faultOf, opaqueRows, sampleRows, sampleOf, pairOf, pairFormat}
 use Rattle.s800.proofs.Channels.{judged}
 
 pub read-whole : (ws : List ℕ) (i end : ℕ) → i < end → end ≤ length ws → getD ws i 0 < 2 ^ 16 → whole i (slice i end ws) ≡ ok (getD ws i 0) (i + 1) (slice (i + 1) end ws)
@@ -93,20 +93,17 @@ module _ {ws : List ℕ} {end i₀ k₀ i k : ℕ} {b₀ b : List ℕ} (h : Samp
         step (λ u. codes-sample) (λ u a g r. refl) h (omega arith) long
         (rw (at-two ws i end below long p q) (sample-whole i v w (slice (i + 2) end ws) g f d)) tt (omega arith) (omega arith) refl s z
 
-pub pair-readable : Readable pairFormat
-pair-readable = record { bits = omega arith; base = omega arith; narrow = λ w h. omega arith }
-
 pair-format : formatOf pairFormat ≡ pairEnergy
-unfolding present channelsFrom
+unfolding present others
 pair-format = refl
 
 -- a pair of two words, after the channels of a set
-module _ {set : ℕ} {seen : List ℕ} (s : Seen set seen) (i : ℕ) {v : ℕ} (f : v < 2 ^ 16) (w : ℕ) (r : List ℕ) where
+module _ {set : ℕ} {seen : List ℕ} (s : Blocked (pairFormat .barred) set seen) (i : ℕ) {v : ℕ} (f : v < 2 ^ 16) (w : ℕ) (r : List ℕ) where
   energy-judged : datum pairEnergy seen i (v ∷ w ∷ r)
       ≡ cond (eqb (faultOf pairFormat set v) 0) (ok (datumOf pairEnergy v) (suc i) (w ∷ r)) (refuse (faultOf pairFormat set v) i)
   energy-judged =
       subst (λ (q : ChannelFormat). datum q seen i (v ∷ w ∷ r) ≡ cond (eqb (faultOf pairFormat set v) 0) (ok (datumOf q v) (suc i) (w ∷ r)) (refuse (faultOf pairFormat set v) i))
-      pair-format (judged pairFormat pair-readable f s i (w ∷ r))
+      pair-format (judged pairFormat f s i (w ∷ r))
 
   pair-energy : (n : ℕ) → n ≡ faultOf pairFormat set v → (n ≡ 0 → ⊥) → pair seen i (v ∷ w ∷ r) ≡ refuse n i
   pair-energy n e z = rw (energy-judged, ← e, ne-eqb n 0 z)
@@ -126,9 +123,9 @@ module _ {set : ℕ} {seen : List ℕ} (s : Seen set seen) (i : ℕ) {v : ℕ} (
         let two : suc (suc i) ≡ i + 2 = omega arith in
         rw (first-read, eq-eqb w (channelWord pairEnergy (v / 2 ^ 12) (w % 2 ^ 12)) n, lt-ltb (w % 2 ^ 12) (2 ^ 12) (omega arith), two)
 
--- `set` holds the channels of the pairs before
+-- `set` holds the barred channels, and those of the pairs before
 abbrev pub Pairs : ℕ → List ℕ → ℕ → ℕ → ℕ → List ℕ → ℕ → ℕ → List ℕ → Type 0
-Pairs set ws end = Reached pair pairChannels pairRows (Seen set) ws end []
+Pairs set ws end = Reached pair pairChannels pairRows (Blocked (pairFormat .barred) set) ws end []
 
 abbrev PairsScanned : List ℕ → ℕ → ℕ → ℕ → List ℕ → Answer → List ℕ → Type 0
 PairsScanned ws end i₀ = Scanned (each pairRows) (many pair pairChannels ended [] i₀ (slice i₀ end ws))
@@ -151,4 +148,4 @@ module _ {set : ℕ} {ws : List ℕ} {end i₀ k₀ i k : ℕ} {b₀ b : List �
         let low : v / 4096 % 32 ≡ v / 4096 = omega arith in
         step codes-pair (λ u a g r. refl) h (omega arith) long
         (rw (at-two ws i end below long p q) (pair-whole (h .holds) i f w (slice (i + 2) end ws) e z))
-        (rw (t, low) (seen-more (v / 4096) (h .holds))) (omega arith) (omega arith) refl s l
+        (rw (t, low) (blocked-more (v / 4096) (h .holds))) (omega arith) (omega arith) refl s l

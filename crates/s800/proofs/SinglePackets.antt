@@ -14,7 +14,7 @@ use Rattle.event.specs.declared.Row.{Row}
 use Rattle.event.specs.Parser.{Result, ok, refuse, then, give, each}
 use Rattle.event.specs.Rows.{row}
 use Rattle.event.specs.Scanning.{storeRows, Leads}
-use Rattle.event.proofs.ChannelLaws.{seen-none}
+use Rattle.event.proofs.ChannelLaws.{blocked-none}
 use Rattle.event.proofs.Leads.{leads-part, leads-trans, leads-refl}
 use Rattle.event.proofs.Turns.{at-word}
 use Rattle.s800_layout.specs.Event.{Datum, hits, hodoscope, objectPin, Packet, ChannelFormat, energy16}
@@ -27,7 +27,7 @@ use Rattle.s800.specs.Channel.{formatOf, faultOf, channelRow, channelRow
 use Rattle.s800.specs.Opening.{Standing, HodoscopeHits, restOf, OpensAs}
 use Rattle.s800.proofs.Channels.{judged}
 use Rattle.s800.proofs.Runs.{read-whole}
-use Rattle.s800.proofs.Opening.{is-between, energies-readable, opens-refused, opens-complete}
+use Rattle.s800.proofs.Opening.{is-between, opens-refused, opens-complete}
 use Rattle.s800.proofs.ChannelPackets.{first-word, energies-format}
 
 three-words : (ws : List ℕ) (i : ℕ) → i + 3 ≤ length ws → slice i (i + 3) ws ≡ getD ws i 0 ∷ getD ws (i + 1) 0 ∷ getD ws (i + 2) 0 ∷ []
@@ -93,13 +93,13 @@ module _ {ws : List ℕ} {start n k : ℕ} (s : Standing ws start n k) (three : 
       let m = energiesFormat 0 in
       let end : start + n ≡ suc (start + 2) = omega arith in
       let word : slice (start + 2) (start + n) ws ≡ energy ∷ [] = at-word ws (start + 2) (start + n) (omega arith) (s .inside) ∙ rw (end, slice-empty (suc (start + 2)) ws) in
-      let j = judged m (energies-readable 0 (omega arith)) fits seen-none (start + 2) [] in
+      let j = judged m fits blocked-none (start + 2) [] in
       let l = one-word m (start + 2) energy (λ d. record { form = objectPin; content = d }) (row 1 0x58a0 0 0 ∷ []) (λ d. refl) k b (eqb (faultOf m 0 energy) 0) (faultOf m 0 energy) (datumOf (formatOf m) energy) j in
       let p = subst (λ (f : ChannelFormat). Leads (each (channelRows m)) (channelWords (formatOf m) (start + 2) (energy ∷ [])) (k + 1) (storeRows b k (row 1 0x58a0 0 0 ∷ []))
       packetRows (then (λ x. give (record { form = objectPin; content = x })) (datum f [] (start + 2) (energy ∷ []))) k b) (energies-format 0) l in
       record {
         opens = (
           refl,
-          record { readable = energies-readable 0 (omega arith); inside = omega arith; few = omega arith; leads = rw (word, q, eq-eqb n 3 three) p },
+          record { base = omega arith; inside = omega arith; few = omega arith; leads = rw (word, q, eq-eqb n 3 three) p },
         );
       }

@@ -17,7 +17,7 @@ use Rattle.s800_layout.specs.Reading.{allowedLength, channelWords, packetConten
 use Rattle.s800.specs.declared.Format.{Format}
 use Rattle.s800.specs.declared.Opened.{Opened}
 use Rattle.s800.specs.declared.Opened.the-variants.{Channels, Refused}
-use Rattle.s800.specs.Channel.{formatOf, channelRows, Readable, energiesFormat}
+use Rattle.s800.specs.Channel.{formatOf, channelRows, energiesFormat}
 
 -- a packet of n words at `start` lies within the words, after no more rows than words
 pub record Standing (ws : List ℕ) (start n count : ℕ) : Type 0 where
@@ -55,7 +55,7 @@ openedOf end (answer.Refused n p) = Refused n p
 module _ {A : Type 0} (ws : List ℕ) (end : ℕ) (rowsOf : A → List Row) (x : Result ℕ A) (k₀ : ℕ) (before after : List ℕ) where
   -- channel words from `at` up to the end, the scan of which ends as that of x does
   pub record Leading (m : Format) (at k : ℕ) : Type 0 where
-    pub readable : Readable m
+    pub base : m .base < 2 ^ 16
     pub inside : at ≤ end
     pub few : k ≤ at
     pub leads : Leads (each (channelRows m)) (channelWords (formatOf m) at (slice at end ws)) k after rowsOf x k₀ before

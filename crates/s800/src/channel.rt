@@ -9,39 +9,44 @@ ghost use Prim.Native.Nat.{_<_};
 ghost use denote.Ref.{now};
 ghost use Rattle.event.specs.Rows.{storeRow};
 ghost use Rattle.s800_layout.specs.Reading.{datumOf};
-ghost use Rattle.s800.specs.Channel.{formatOf, channelOf, numberOf, faultOf, channelRow, Readable};
+ghost use Rattle.s800.specs.Channel.{formatOf, channelOf, numberOf, faultOf, channelRow};
 
 pub(crate) fn channel_of(format: Format, w: u32) -> u32
-    requires { ⌜ Readable format ⌝ }
     ensures { λ r. ⌜ r ≡ channelOf format w ⌝ }
 {
-    w >> format.bits
+    if format.wide {
+        return w / 8192;
+    }
+    w / 4096
 }
 
 fn number_of(format: Format, w: u32) -> u32
-    requires { ⌜ Readable format ⌝ }
     ensures { λ r. ⌜ r ≡ numberOf format w ⌝ }
 {
-    w % (1u32 << format.bits)
+    if format.wide {
+        return w % 8192;
+    }
+    w % 4096
 }
 
-// The refusal that a channel word meets, 0 for none: a channel that is not allowed comes before one that was seen.
-pub(crate) fn channel_fault(format: Format, seen: u32, w: u32) -> u32
-    requires { ⌜ Readable format × (w < 65536) ⌝ }
-    ensures { λ r. ⌜ r ≡ faultOf format seen w ⌝ }
+// The refusal that a channel word meets, 0 for none. One set is tested for a good word: the channels that are not allowed,
+// and those seen.
+pub(crate) fn channel_fault(format: Format, blocked: u32, w: u32) -> u32
+    requires { ⌜ w < 65536 ⌝ }
+    ensures { λ r. ⌜ r ≡ faultOf format blocked w ⌝ }
 {
     let channel = channel_of(format, w);
-    if contains(format.allowed, channel) {
-        if contains(seen, channel) {
-            return refusal::REPEATED;
+    if contains(blocked, channel) {
+        if contains(format.barred, channel) {
+            return refusal::DATA;
         }
-        return 0;
+        return refusal::REPEATED;
     }
-    refusal::DATA
+    0
 }
 
 pub(crate) fn store_channel(rows: &mut [u32], at: usize, format: Format, w: u32)
-    requires { ⌜ Readable format × (w < 65536) ⌝ }
+    requires { ⌜ (format .base < 65536) × (w < 65536) ⌝ }
     ensures { λ _. ⌜ now (rows .exit) ≡ storeRow (now (rows .entry)) at (channelRow format (datumOf (formatOf format) w)) ⌝ }
 {
     let row = Row {

@@ -38,7 +38,7 @@ pub(crate) fn open_trigger(
     store_packet(rows, count, 0x5801, 0);
     store_datum(rows, count + 1, kind::TRIGGER_PATTERN, pattern);
     Opened::Channels {
-        format: times(0x0f00),
+        format: times(0xf0ff),
         at: start + 3,
         end: start + length,
         count: count + 2,
@@ -61,7 +61,7 @@ pub(crate) fn open_time_of_flight(
     }
     store_packet(rows, count, 0x5802, 0);
     Opened::Channels {
-        format: times(0xf0f0),
+        format: times(0x0f0f),
         at: start + 2,
         end: start + length,
         count: count + 1,

@@ -113,12 +113,12 @@ pub(crate) fn read_pairs(
     ensures { λ r. ⌜ Scanned (each pairRows) (many pair pairChannels ended [] from (slice from end (now (words .entry)))) first (now (rows .entry)) r (now (rows .exit)) × NoMore end r ⌝ }
 {
     let format = pair_energy();
-    let mut seen: u32 = 0;
+    let mut blocked = format.barred;
     let mut i = from;
     let mut count = first;
     while i < end {
         let energy = word(words, i);
-        let number = channel_fault(format, seen, energy);
+        let number = channel_fault(format, blocked, energy);
         if number != 0 {
             return Answer::Refused { number, place: i };
         }
@@ -127,7 +127,7 @@ pub(crate) fn read_pairs(
         if time / 4096 != channel {
             return refused(i + 1);
         }
-        seen = with_channel(seen, channel);
+        blocked = with_channel(blocked, channel);
         store_pair(rows, count, energy, time);
         count += 2;
         i += 2;
@@ -141,8 +141,8 @@ fn pair_energy() -> Format
     Format {
         kind: kind::ENERGY,
         base: 0,
-        bits: 12,
-        allowed: 0x3f,
+        wide: false,
+        barred: 0xffc0,
     }
 }
 

@@ -21,13 +21,13 @@ ghost use Rattle.event.specs.Rows.{flat, room};
 ghost use Rattle.s800_layout.specs.Layout.{pad};
 ghost use Rattle.s800_layout.specs.Reading.{readingInto};
 
-// How the channel words of a packet are read: the kind of their rows, the row channel of channel 0, the bits of the
-// number below the channel, and the channels allowed, as a set of bits.
+// How the channel words of a packet are read: the kind of their rows, the row channel of channel 0, whether the number below
+// the channel has 13 bits and not 12, and the channels not allowed, as a set of bits.
 pub(crate) struct Format {
     pub(crate) kind: u32,
     pub(crate) base: u32,
-    pub(crate) bits: u32,
-    pub(crate) allowed: u32,
+    pub(crate) wide: bool,
+    pub(crate) barred: u32,
 }
 
 // What the first words of a packet lead to.

@@ -72,15 +72,15 @@ pub(crate) fn store_datum(rows: &mut [u32], at: usize, kind: u32, datum: u32)
     store_row(rows, at, row);
 }
 
-// Times of the channels of a set.
-pub(crate) fn times(allowed: u32) -> Format
-    ensures { λ r. ⌜ r ≡ timesFormat allowed ⌝ }
+// Times of the channels that are not in a set.
+pub(crate) fn times(barred: u32) -> Format
+    ensures { λ r. ⌜ r ≡ timesFormat barred ⌝ }
 {
     Format {
         kind: kind::TIME,
         base: 0,
-        bits: 12,
-        allowed,
+        wide: false,
+        barred,
     }
 }
 
@@ -91,8 +91,8 @@ pub(crate) fn energies(base: u32) -> Format
     Format {
         kind: kind::ENERGY,
         base,
-        bits: 12,
-        allowed: 0xffff,
+        wide: false,
+        barred: 0,
     }
 }
 
@@ -103,7 +103,7 @@ pub(crate) fn adc_energies(base: u32) -> Format
     Format {
         kind: kind::ENERGY,
         base,
-        bits: 13,
-        allowed: 0xff,
+        wide: true,
+        barred: 0xff00,
     }
 }

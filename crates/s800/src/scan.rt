@@ -41,16 +41,16 @@ pub(crate) fn scan(words: &[u16], order: StampOrder, rows: &mut [u32]) -> Answer
                 end,
                 count: so_far,
             } => {
-                let mut seen: u32 = 0;
+                let mut blocked = format.barred;
                 i = at;
                 count = so_far;
                 while i < end {
                     let w = word(words, i);
-                    let number = channel_fault(format, seen, w);
+                    let number = channel_fault(format, blocked, w);
                     if number != 0 {
                         break 'packets Answer::Refused { number, place: i };
                     }
-                    seen = with_channel(seen, channel_of(format, w));
+                    blocked = with_channel(blocked, channel_of(format, w));
                     store_channel(rows, count, format, w);
                     count += 1;
                     i += 1;

@@ -2,11 +2,13 @@
 use native.Mathlib.Omega.{arith}
 use mathlib.Core.Path.{_∙_}
 use borrow.Author.Needs.{needs}
+use Rattle.s800.proofs.Channels.{low-channel}
 use Rattle.s800.proofs.channel.store_channel.Statement.{statement}
 use Rattle.s800.proofs.channel.store_channel.Tie as tie
 
 add-t7 : tie.Need-add-t7
-add-t7 c = omega (arith, c .before .before .before .pre .0 .base, c .before .before .before .pre .0 .narrow (c .before .before .before .args .w) (c .before .before .before .pre .1), c .before .channel-of .ensures)
+add-t7 c =
+    omega (arith, low-channel (c .before .before .before .args .format) (c .before .before .before .pre .1), c .before .channel-of .ensures)
 
 returns : tie.Need-returns
 returns c = c .before .before .store-row .ensures ∙ rw (c .before .before .before .before .before .before .channel-of .ensures, c .before .before .before .before .number-of .ensures)

@@ -3,10 +3,10 @@ use Prim.Native.Nat.{_-_, _%_}
 use mathlib.Core.Path.{_≡_, sym, ap, _∙_}
 use native.Mathlib.Omega.{arith}
 use borrow.Author.Needs.{needs}
-use Rattle.event.proofs.ChannelLaws.{seen-none}
+use Rattle.event.proofs.ChannelLaws.{blocked-none}
 use Rattle.event.proofs.Turns.{begin, finish}
 use Rattle.s800.specs.Channel.{faultOf, pairFormat}
-use Rattle.s800.proofs.Runs.{Pairs, pair-readable, pair-stop, pair-stop-2, pair-step}
+use Rattle.s800.proofs.Runs.{Pairs, pair-stop, pair-stop-2, pair-step}
 use Rattle.s800.proofs.content.read_pairs.Statement.{statement}
 use Rattle.s800.proofs.content.read_pairs.Tie as tie
 
@@ -17,7 +17,7 @@ abbrev μ-loop : tie.MeasureT-loop
 μ-loop words from end rows₀ first format seen₀ i₀ count₀ rows seen i count = end - i
 
 channel-fault-requires : tie.Need-channel-fault-requires Inv-loop μ-loop
-channel-fault-requires c κs = (rw (c .before .before .loop .inv .2) pair-readable, c .word .ensures .1)
+channel-fault-requires c κs = c .word .ensures .1
 
 returns : tie.Need-returns Inv-loop μ-loop
 returns c =
@@ -52,7 +52,7 @@ read-pairs-spec =
     Inv-loop
     μ-loop
     (λ c κs. search needs)
-    (λ c. (begin seen-none (search needs) (search needs), search needs, c .pair-energy .ensures))
+    (λ c. (begin (rw (c .pair-energy .ensures) blocked-none) (search needs) (search needs), search needs, c .pair-energy .ensures))
     (λ c κs. search needs)
     channel-fault-requires
     (λ c. search needs)

@@ -1,22 +1,21 @@
 -- `scan::scan` meets its contract. Assumes nothing.
-use Prim.Native.Nat.{_-_, _≤_}
+use Prim.Native.Nat.{_-_, _^_, _≤_, _<_}
 use native.Mathlib.Omega.{arith}
 use mathlib.Core.Path.{_≡_, refl, sym, _∙_}
 use lib.ListN.{length}
-use Rattle.event.proofs.ChannelLaws.{seen-none}
+use Rattle.event.proofs.ChannelLaws.{blocked-none}
 use Rattle.event.proofs.Turns.{begin, finish}
-use Rattle.s800.specs.Channel.{Readable}
 use Rattle.s800.proofs.Reading.{Packets, opening-refused, channels-refused, over, ChannelRun, word-refused, word-taken, packets-begin, whole-event, head-refused}
 use borrow.Author.Needs.{needs}
 use Rattle.s800.proofs.scan.scan.Statement.{statement}
 use Rattle.s800.proofs.scan.scan.Tie as tie
 
 abbrev Inv-loop : tie.InvT-loop
-Inv-loop words rows₀ first i₀ count₀ format at end so-far seen₀ rows i count seen =
-    ChannelRun format seen words end i₀ count₀ rows₀ i count rows × Readable format × (end ≤ length words)
+Inv-loop words rows₀ first i₀ count₀ format at end so-far blocked₀ rows i count blocked =
+    ChannelRun format blocked words end i₀ count₀ rows₀ i count rows × (format .base < 2 ^ 16) × (end ≤ length words)
 
 abbrev μ-loop : tie.MeasureT-loop
-μ-loop words rows₀ first i₀ count₀ format at end so-far seen₀ rows i count seen = end - i
+μ-loop words rows₀ first i₀ count₀ format at end so-far blocked₀ rows i count blocked = end - i
 
 abbrev Inv-packets : tie.InvT-packets
 Inv-packets words rows₀ first i₀ count₀ rows i count = Packets words i₀ count₀ rows₀ i count rows
@@ -36,7 +35,7 @@ loop-holds c =
     let o = rw (c .before .opened2 .given .1) at (c .before .before .before .before .before .open-packet .ensures) in
     let l = o .opens .1 in
     let e = o .opens .0 in
-    (begin seen-none (rw e (l .inside)) (l .few), l .readable, o .lies .1)
+    (begin blocked-none (rw e (l .inside)) (l .few), l .base, o .lies .1)
 
 packets-less : tie.Need-packets-less Inv-loop μ-loop Inv-packets μ-packets
 packets-less c =
@@ -58,7 +57,7 @@ loop-again c =
     let i = l .loop .inv in
     let w = c .before .before .before .before .before .before .before .before .word in
     let s = c .before .before .store-channel in (
-      word-taken (i .0) (i .1) (c .before .before .before .before .before .before .before .before .before .loop-test .taken) (i .2) (w .ensures .0) (w .ensures .1) (sym (c .before .before .before .before .before .before .if2 .left) ∙ c .before .before .before .before .before .before .before .channel-fault .ensures) (c .before .before .before .before .before .channel-of .ensures)
+      word-taken _ (i .0) (c .before .before .before .before .before .before .before .before .before .loop-test .taken) (i .2) (w .ensures .0) (w .ensures .1) (sym (c .before .before .before .before .before .before .if2 .left) ∙ c .before .before .before .before .before .before .before .channel-fault .ensures) (c .before .before .before .before .before .channel-of .ensures)
           (c .before .before .before .before .with-channel .ensures) (s .ensures) (s .kept .0),
       i .1,
       i .2,
@@ -78,7 +77,7 @@ returns-4 c =
     let w = c .before .before .word in
     whole-event (c .before .before .before .before .before .before .before .before .before .before .before .before .before .before .before .before .before .before .before .begin .ensures) (c .before .before .before .before .before .before .before .before .before .before .before .before .before .before .before .begun .given .1)
     (channels-refused (c .before .before .before .before .before .before .before .before .before .before .before .before .before .packets .inv) (c .before .before .before .before .before .before .before .before .before .before .before .before .if1 .left) (c .before .before .before .before .before .before .before .before .before .before .open-packet .ensures) (c .before .before .before .before .before .before .opened2 .given .1)
-    (word-refused (i .0) (i .1) (c .before .before .before .loop-test .taken) (i .2) (w .ensures .0) (w .ensures .1) _ (c .before .channel-fault .ensures) (c .if2 .taken)))
+    (word-refused _ (i .0) (c .before .before .before .loop-test .taken) (i .2) (w .ensures .0) (w .ensures .1) _ (c .before .channel-fault .ensures) (c .if2 .taken)))
 
 pub scan-spec : {M : Type 1} → statement M
 scan-spec =
@@ -101,8 +100,8 @@ scan-spec =
     packets-less
     packets-again
     (λ c κs. omega (arith, c .before .loop .inv .2))
-    (λ c κs. (c .before .before .loop .inv .1, c .word .ensures .1))
-    (λ c κs. c .before .before .before .before .loop .inv .1)
+    (λ c κs. c .word .ensures .1)
+    (λ c κs. search needs)
     (λ c κs. search needs)
     (λ c κs. (c .before .before .before .before .before .before .before .loop .inv .1, c .before .before .before .before .before .word .ensures .1))
     (λ c. omega (arith, c .before .before .before .before .before .before .before .before .before .before .loop .inv .0 .few, c .before .before .before .before .before .before .before .before .before .before .loop .inv .2))
