@@ -11,3 +11,4 @@ pub mod Turns
 pub mod ChannelLaws
 pub mod Stores
 pub mod Loops
+pub mod Refusals

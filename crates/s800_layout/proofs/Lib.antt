@@ -5,3 +5,4 @@ pub mod Event
 pub mod Reading
 pub mod Width
 pub mod Edges
+pub mod Refusals
