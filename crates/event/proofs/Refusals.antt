@@ -2,7 +2,7 @@
 -- Assumes nothing.
 use Prim.Native.Nat.{ℕ, zero, suc, _+_, _≤_, _<_}
 use native.Mathlib.Omega.{arith}
-use mathlib.Core.Path.{_≡_, refl}
+use mathlib.Core.Path.{_≡_, refl, subst}
 use mathlib.Core.Bool.{Bool, true, false, cond}
 use mathlib.Core.List.{List, [], _∷_}
 use lib.Dec.{T, leb}
@@ -95,6 +95,10 @@ module _ {E : Type 0} {number : ℕ → Bool} {end : ℕ} where
           let z = leb-true m (length s) q in
           let u : length (take m s) ≡ m = omega (arith, length-take m s) in
           fill i limit e z (p i (take m s)) (c (take m s) u .run i (i + m) (omega arith) (omega arith))
+
+pub keeps-ok : {E A : Type 0} {number : ℕ → Bool} {end : ℕ} {s : List E} {p : Parser E A} {Left : List E → Type 0} → Keeps number end s p Left
+    → (i : ℕ) (a : A) (j : ℕ) (r : List E) → i + length s ≤ end → p i s ≡ ok a j r → Left r
+keeps-ok {number = number} {end = end} {s = s} {p = p} {Left = Left} c i a j r h e = subst (Fair number end (i + length s) Left) e (c .run i (i + length s) refl h) .1
 
 -- Items up to the end: each takes an element or more, and `Fit` stays true of what is left. So the fuel lasts.
 module _ {E St A : Type 0} {number : ℕ → Bool} {end : ℕ} (item : St → Parser E A) (next : St → A → St) (Fit : List E → Type 0)

@@ -19,7 +19,7 @@ use Rattle.s800_layout.specs.Event.{Form, trigger, Content, Packet, tag, formOf
 use Rattle.s800_layout.specs.Layout.{packetRows}
 use Rattle.s800_layout.specs.Reading.{allowedLength, content, packetContent, formWord, packet}
 use Rattle.s800_layout.proofs.Lengths.{form-back}
-use Rattle.s800_layout.proofs.Filled.{content-ends}
+use Rattle.s800_layout.proofs.Refusals.{content-ends}
 use Rattle.s800.specs.declared.Opened.{Opened}
 use Rattle.s800.specs.declared.Opened.the-variants.{Channels, Refused}
 use Rattle.s800.specs.Opening.{restOf, OpensAs, OpensPacket}

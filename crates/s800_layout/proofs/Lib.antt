@@ -1,6 +1,5 @@
 pub mod Lengths
 pub mod Words
-pub mod Filled
 pub mod Event
 pub mod Reading
 pub mod Width

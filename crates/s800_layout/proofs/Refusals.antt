@@ -4,17 +4,18 @@ use Prim.Native.Nat.{ℕ, suc, _+_, _-_, _%_, _≤_, _<_}
 use native.Mathlib.Omega.{arith}
 use mathlib.Core.Path.{_≡_}
 use mathlib.Core.Logic.{_⊎_, inl, inr}
-use mathlib.Core.Bool.{Bool}
+use mathlib.Core.Bool.{Bool, true}
 use mathlib.Core.List.{List, [], _∷_}
 use lib.Dec.{T, leb, eqb, leb→le, eqb→eq}
 use lib.ListN.{length}
 use Rattle.event.specs.declared.StampOrder.{StampOrder}
-use Rattle.event.specs.Parser.{Parser, _>>_, alone}
+use Rattle.event.specs.Parser.{ok, Parser, ended, _>>_, alone}
+use Rattle.event.proofs.Codes.{true-T}
 use Rattle.event.specs.Words.{exactly}
 use Rattle.event.specs.Outcome.{refused}
 use Rattle.event.proofs.Elements.{both}
-use Rattle.event.proofs.Refusals.{Keeps, either, keeps-give, keeps-left, keeps-bind, keeps-map, keeps-require, keeps-element, keeps-next, keeps-here, keeps-within, keeps-many, keeps-outcome}
-use Rattle.s800_layout.specs.Event.{Form, trigger, timeOfFlight, scintillator, ionChamber, crdc, hodoscope, objectPin, vmeAdc, opaque, stampTag, numberTag, energiesTag, samplesTag, anodeTag, ChannelFormat, triggerTime, flightTime, energy16, adcEnergy}
+use Rattle.event.proofs.Refusals.{Keeps, either, keeps-give, keeps-left, keeps-bind, keeps-map, keeps-require, keeps-element, keeps-next, keeps-here, keeps-within, keeps-many, keeps-outcome, keeps-ok}
+use Rattle.s800_layout.specs.Event.{Content, Form, trigger, timeOfFlight, scintillator, ionChamber, crdc, hodoscope, objectPin, vmeAdc, opaque, stampTag, numberTag, energiesTag, samplesTag, anodeTag, ChannelFormat, triggerTime, flightTime, energy16, adcEnergy}
 use Rattle.s800_layout.specs.Layout.{rows, smallestEvent, largestEvent, channels, pairChannels}
 use Rattle.s800_layout.specs.Reading.{between, even, allowedLength, bodyOf, packetOf, inner, whole, datum, channelWords, pair, sample, samples, anode, registers, content, formWord, packetContent, packet, stampContent, numberContent, eventParser, reading}
 
@@ -69,7 +70,7 @@ module _ (bound : ℕ) where
   fills-number s l = keeps-next (omega arith) λ a r e. keeps-next (omega arith) λ b r₁ e₁. keeps-next (omega arith) λ c r₂ e₂. keeps-give (omega arith)
 
   -- the content of a packet whose length n is allowed
-  fills-content : (f : Form) (p n : ℕ) (s : List ℕ) → T (allowedLength f n) → p < bound → 2 + length s ≡ n → Fills s (content f p n)
+  fills-content : (f : Form) (p n : ℕ) (s : List ℕ) → T (allowedLength f n) → p < bound → length s ≡ n - 2 → Fills s (content f p n)
   fills-content trigger p n s a b l = keeps-next (omega (arith, at-least 3 7 n a)) λ w r e. keeps-map _ (fills-channels triggerTime r)
   fills-content timeOfFlight p n s a b l = fills-channels flightTime s
   fills-content scintillator p n s a b l = keeps-many pair pairChannels (λ r. length r % 2 ≡ 0)
@@ -90,7 +91,7 @@ module _ (bound : ℕ) where
 
   reads-packet : (s : List ℕ) → 1 ≤ length s → Reads s packet (λ r. length r < length s)
   reads-packet s l = keeps-left
-      (reads-packetOf formWord allowedLength packetContent (λ s l. keeps-element (omega arith)) (λ f p n s a b l. keeps-map _ (fills-content f p n s a b l)) s l)
+      (reads-packetOf formWord allowedLength packetContent (λ s l. keeps-element (omega arith)) (λ f p n s a b l. keeps-map _ (fills-content f p n s a b (omega arith))) s l)
       (λ r e. omega arith)
 
   -- the first packet or the second, of one length
@@ -114,3 +115,12 @@ refusals o (w ∷ ws) n k e =
     let h = keeps-outcome (fills-event (suc (length ws)) (w ∷ ws) (omega arith)) (omega arith) (rows o) n k e in
     let t = both (leb 1 n) (leb n 11) (h .0) in
     (leb→le 1 n (t .0), leb→le n 11 (t .1), inl (h .1))
+
+-- what a packet holds fills it
+empty : (r : List ℕ) → length r ≡ 0 → T (ended r)
+empty [] e = tt
+empty (x ∷ r) e = absurd (omega arith)
+
+pub content-ends : (f : Form) (p n : ℕ) → allowedLength f n ≡ true → (i : ℕ) (s : List ℕ) (c : Content f) (j : ℕ) (r : List ℕ) → length s ≡ n - 2
+    → content f p n i s ≡ ok c j r → T (ended r)
+content-ends f p n a i s c j r l e = empty r (keeps-ok (fills-content (suc (p + i + length s)) f p n s (true-T (allowedLength f n) a) (omega arith) l) i c j r (omega arith) e)

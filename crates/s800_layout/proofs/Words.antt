@@ -106,7 +106,7 @@ codes-registers = less (same
     (λ h g. search) (λ h g. search) (λ h g. refl)) (λ r t. tt)
 
 -- what a packet's length says of its content, beside its number of words
-abbrev pub Fits : (f : Form) → ℕ → Content f → Type 0
+abbrev Fits : (f : Form) → ℕ → Content f → Type 0
 Fits trigger n c = Unit {0}
 Fits timeOfFlight n c = Unit {0}
 Fits scintillator n c = Unit {0}
