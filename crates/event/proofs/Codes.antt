@@ -1,15 +1,15 @@
 -- A parser that codes a printer: sound and complete at once, with a rule for each way to build a parser.
 -- Assumes nothing.
-use Prim.Native.Nat.{ℕ, zero, suc, _+_, _-_, _≤_, _<_}
+use Prim.Native.Nat.{ℕ, suc, _+_}
 use native.Mathlib.Omega.{arith}
-use mathlib.Core.Path.{_≡_, refl, ap, sym, _∙_, subst}
-use mathlib.Core.Bool.{Bool, true, false, cond, not}
-use mathlib.Core.List.{List, [], _∷_, _++_, append-assoc, append-nil}
+use mathlib.Core.Path.{_≡_, refl, ap, sym, _∙_}
+use mathlib.Core.Bool.{Bool, true, false, cond}
+use mathlib.Core.List.{List, [], _∷_, _++_, append-nil}
 use lib.Dec.{T, leb}
-use lib.ListN.{length, take, drop, length-append, length-take, length-drop, take-append-drop}
-use lib.Seq.{take-at, drop-at, drop-drop}
+use lib.ListN.{length, take, drop, length-append, length-take, take-append-drop}
+use lib.Seq.{take-at, drop-at}
 use borrow.Author.Tests.{leb-true, le-leb}
-use Rattle.event.specs.Parser.{Result, ok, refuse, Parser, Test, Passed, ended, then, _>>=_, give, here, require, judge, element, filled, within, upTo, many, alone, several, prints, Goods, each}
+use Rattle.event.specs.Parser.{Result, ok, refuse, Parser, Test, Passed, ended, _>>=_, here, require, judge, element, filled, within}
 
 -- A success leaves a good value, printed in front of the rest, and the place is as many elements on;
 -- a good value printed is read back, given what may follow (`Rest`).
@@ -57,9 +57,6 @@ module _ {E A : Type 0} where
   pub less : {Rest Rest′ : List E → Type 0} {p : Parser E A} {print : A → List E} {Good : A → Type 0} → Codes Rest p print Good
       → ((r : List E) → Rest′ r → Rest r) → Codes Rest′ p print Good
   less c f = record { sound = c .sound; complete = λ a g i r rr. c .complete a g i r (f r rr) }
-
-  pub codes-give : (a : A) → Codes {E = E} any (give a) (λ b. []) (λ b. b ≡ a)
-  codes-give a = record { sound = λ i s b j r e. let p : i ≡ j = cc in (cc, cc, omega arith); complete = λ b g i r rr. (i, cc) }
 
   pub codes-here : {Rest : List E → Type 0} {p : ℕ → Parser E A} {print : A → List E} {Good : A → Type 0} → ((k : ℕ) → Codes Rest (p k) print Good) → Codes Rest (here >>= p) print Good
   codes-here c = record { sound = λ i. c i .sound i; complete = λ a g i. c i .complete a g i }

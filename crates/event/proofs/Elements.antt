@@ -1,13 +1,10 @@
 -- Words and rows with fields, coded by what their fields print.
 -- Assumes nothing.
-use Prim.Native.Nat.{ℕ, zero, suc, _%_}
-use native.Mathlib.Omega.{arith}
-use mathlib.Core.Path.{_≡_, refl, ap, sym, _∙_}
-use mathlib.Core.Bool.{Bool, true, false, not, _&&_}
+use Prim.Native.Nat.{ℕ}
+use mathlib.Core.Path.{_≡_, refl, ap}
+use mathlib.Core.Bool.{Bool, true, false, _&&_}
 use mathlib.Core.List.{List, [], _∷_, _++_, map}
-use lib.Dec.{T, ltb, eqb, eqb→eq, eqb-refl}
-use lib.ListN.{length}
-use borrow.Author.Tests.{eq-eqb}
+use lib.Dec.{T, eqb→eq, eqb-refl}
 use Rattle.event.specs.Parser.{Parser, Test, Passed, prints, Goods, each, All, alone, several}
 use Rattle.event.specs.Words.{layout, exactly, anyWord, belowChecks, wordBelow}
 use Rattle.event.proofs.Codes.{Codes, any, At, same, codes-element}
@@ -31,10 +28,6 @@ codes-below n bound = codes-layout n (λ w. w) (λ w. w) (belowChecks n bound) (
 pub both : (a b : Bool) → T (a && b) → T a × T b
 both true b t = (tt, t)
 both false b t = absurd t
-
-pub not-true : (b : Bool) → T (not b) → b ≡ false
-not-true true t = absurd t
-not-true false t = refl
 
 pub prints-map : {E St A : Type 0} (f : A → E) (next : St → A → St) (st : St) (xs : List A) → prints (λ t a. f a ∷ []) next st xs ≡ map f xs
 prints-map f next st [] = refl

@@ -1,16 +1,15 @@
 -- Where a parser ends: the place it gives, and the stop it runs up to.
 -- Assumes nothing.
-use Prim.Native.Nat.{ℕ, zero, suc, _+_, _-_, _≤_, _<_}
+use Prim.Native.Nat.{ℕ, zero, suc, _+_, _≤_}
 use native.Mathlib.Omega.{arith}
 use mathlib.Core.Path.{_≡_, refl, ap, sym, _∙_, subst}
-use mathlib.Core.Bool.{Bool, true, false, cond, not}
-use mathlib.Core.List.{List, [], _∷_, _++_, append-assoc, append-nil}
-use lib.Dec.{T, leb}
-use lib.ListN.{length, take, drop, length-append, length-take, length-drop, take-append-drop}
-use lib.Seq.{take-at, drop-at, drop-drop}
-use borrow.Author.Tests.{leb-true, le-leb}
-use Rattle.event.specs.Parser.{Result, ok, refuse, Parser, Test, Passed, ended, then, _>>=_, give, here, require, judge, element, filled, within, upTo, many, alone, several, prints, Goods, each}
-use Rattle.event.proofs.Codes.{Codes, any, At, T-true, true-T}
+use mathlib.Core.Bool.{Bool, true, false, cond}
+use mathlib.Core.List.{List, [], _∷_}
+use lib.Dec.{T}
+use lib.ListN.{length, drop, length-append, length-drop}
+use lib.Seq.{drop-at, drop-drop}
+use Rattle.event.specs.Parser.{Result, ok, refuse, Parser, then, _>>=_, give, upTo, many}
+use Rattle.event.proofs.Codes.{Codes, true-T}
 
 -- the place given is where the rest of the input stands: what a loop over a slice by an index needs
 pub placed : {E A : Type 0} {Rest : List E → Type 0} {p : Parser E A} {print : A → List E} {Good : A → Type 0} → Codes Rest p print Good

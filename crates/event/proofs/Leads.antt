@@ -1,17 +1,15 @@
 -- Scans: how the steps of a scan lead from one to the next.
 -- Assumes nothing.
-use Prim.Native.Nat.{ℕ, zero, suc, _+_}
+use Prim.Native.Nat.{ℕ, suc, _+_}
 use native.Mathlib.Omega.{arith}
 use mathlib.Core.Path.{_≡_, refl, ap, sym, _∙_}
-use mathlib.Core.Bool.{false}
-use mathlib.Core.List.{List, [], _∷_, _++_, append-nil}
+use mathlib.Core.List.{List, [], _∷_, _++_}
 use lib.ListN.{length, length-append}
-use Rattle.event.specs.declared.Answer.{Answer}
 use Rattle.event.specs.declared.Answer.the-variants.{Accepted, Refused}
 use Rattle.event.specs.declared.Row.{Row}
-use Rattle.event.specs.Parser.{Result, ok, refuse, Parser, then, _>>=_, give, each}
+use Rattle.event.specs.Parser.{Result, ok, refuse, then, give}
 use Rattle.event.specs.Rows.{storeRow}
-use Rattle.event.specs.Scanning.{storeRows, answerAt, Stored, Scanned, Leads}
+use Rattle.event.specs.Scanning.{storeRows, Scanned, Leads}
 
 pub leads-refl : {E A : Type 0} {f : A → List Row} {x : Result E A} {k : ℕ} {b : List ℕ} → Leads f x k b f x k b
 leads-refl = record { leads = λ r l s. s }

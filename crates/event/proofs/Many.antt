@@ -1,16 +1,14 @@
 -- Items one after another up to a stop: their code, and the equation that a loop over them uses.
 -- Assumes nothing.
-use Prim.Native.Nat.{ℕ, zero, suc, _+_, _-_, _≤_, _<_}
+use Prim.Native.Nat.{ℕ, zero, suc, _+_, _≤_}
 use native.Mathlib.Omega.{arith}
-use mathlib.Core.Path.{_≡_, refl, ap, sym, _∙_, subst}
-use mathlib.Core.Bool.{Bool, true, false, cond, not}
-use mathlib.Core.List.{List, [], _∷_, _++_, append-assoc, append-nil}
-use lib.Dec.{T, leb}
-use lib.ListN.{length, take, drop, length-append, length-take, length-drop, take-append-drop}
-use lib.Seq.{take-at, drop-at, drop-drop}
-use borrow.Author.Tests.{leb-true, le-leb}
-use Rattle.event.specs.Parser.{Result, ok, refuse, Parser, Test, Passed, ended, then, _>>=_, give, here, require, judge, element, filled, within, upTo, many, alone, several, prints, Goods, each}
-use Rattle.event.proofs.Codes.{Codes, any, At, T-true, true-T}
+use mathlib.Core.Path.{_≡_, refl, ap, sym, _∙_}
+use mathlib.Core.Bool.{Bool, true, false, cond}
+use mathlib.Core.List.{List, [], _∷_, _++_, append-assoc}
+use lib.Dec.{T}
+use lib.ListN.{length, length-append}
+use Rattle.event.specs.Parser.{Result, ok, refuse, Parser, then, _>>=_, give, upTo, many, prints, Goods}
+use Rattle.event.proofs.Codes.{Codes, any, At, T-true}
 
 -- a success of `one more item`, taken apart
 record Cons {E A : Type 0} (x : Result E A) (more : A → Parser E (List A)) (ys : List A) (j : ℕ) (r : List E) : Type 0 where

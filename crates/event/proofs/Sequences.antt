@@ -1,16 +1,12 @@
 -- One parser after another: the codes of what they build.
 -- Assumes nothing.
-use Prim.Native.Nat.{ℕ, zero, suc, _+_, _-_, _≤_, _<_}
+use Prim.Native.Nat.{ℕ, _+_}
 use native.Mathlib.Omega.{arith}
-use mathlib.Core.Path.{_≡_, refl, ap, sym, _∙_, subst}
-use mathlib.Core.Bool.{Bool, true, false, cond, not}
-use mathlib.Core.List.{List, [], _∷_, _++_, append-assoc, append-nil}
-use lib.Dec.{T, leb}
-use lib.ListN.{length, take, drop, length-append, length-take, length-drop, take-append-drop}
-use lib.Seq.{take-at, drop-at, drop-drop}
-use borrow.Author.Tests.{leb-true, le-leb}
-use Rattle.event.specs.Parser.{Result, ok, refuse, Parser, Test, Passed, ended, then, _>>=_, give, here, require, judge, element, filled, within, upTo, many, alone, several, prints, Goods, each}
-use Rattle.event.proofs.Codes.{Codes, any, At, T-true, true-T}
+use mathlib.Core.Path.{_≡_, refl, ap, sym, _∙_}
+use mathlib.Core.List.{List, _++_, append-assoc}
+use lib.ListN.{length, length-append}
+use Rattle.event.specs.Parser.{Result, ok, refuse, Parser, then, _>>=_, give}
+use Rattle.event.proofs.Codes.{Codes, any}
 
 module _ {E A B : Type 0} where
   -- one parser after another: `part b` is the value of the first that b was made from, `Rest₁` what may follow it

@@ -1,16 +1,15 @@
 -- A loop by an index that scans items up to an end: what it has reached, and what a turn does.
 -- Assumes nothing.
-use Prim.Native.Nat.{ℕ, zero, suc, _+_, _≤_, _<_}
+use Prim.Native.Nat.{ℕ, suc, _+_, _≤_, _<_}
 use native.Mathlib.Omega.{arith}
-use mathlib.Core.Path.{_≡_, refl, sym, ap, _∙_}
+use mathlib.Core.Path.{_≡_, refl, _∙_}
 use mathlib.Core.Bool.{false}
 use mathlib.Core.List.{List, [], _∷_, _++_}
 use lib.ListN.{length, getD}
 use lib.Seq.{slice, slice-cons, slice-empty}
-use Rattle.event.specs.declared.Answer.{Answer}
 use Rattle.event.specs.declared.Answer.the-variants.{Accepted, Refused}
 use Rattle.event.specs.declared.Row.{Row}
-use Rattle.event.specs.Parser.{Result, ok, refuse, Parser, ended, many, each}
+use Rattle.event.specs.Parser.{ok, refuse, Parser, ended, many, each}
 use Rattle.event.specs.Scanning.{storeRows, Scanned, Leads}
 use Rattle.event.proofs.Codes.{Codes, any}
 use Rattle.event.proofs.Leads.{leads-part, leads-refl, leads-trans, scanned-refuse, scanned-none}

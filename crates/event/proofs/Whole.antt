@@ -1,14 +1,14 @@
 -- Whole inputs: a parser that runs to the end and codes a printer accepts exactly what is printed. Rows in a buffer.
 -- Assumes nothing.
-use Prim.Native.Nat.{ℕ, zero, suc, _%_, _≤_}
+use Prim.Native.Nat.{ℕ, _≤_}
 use native.Mathlib.Omega.{arith}
-use mathlib.Core.Path.{_≡_, refl, ap, sym, _∙_, subst}
+use mathlib.Core.Path.{_≡_, refl, sym, _∙_, subst}
 use mathlib.Core.Logic.{_↔_}
-use mathlib.Core.Bool.{Bool, true, false, cond, _&&_}
-use mathlib.Core.List.{List, [], _∷_, _++_, append-nil}
-use lib.Dec.{T, leb, eqb}
+use mathlib.Core.Bool.{Bool, true, false, cond}
+use mathlib.Core.List.{List, [], append-nil}
+use lib.Dec.{leb}
 use lib.ListN.{length}
-use borrow.Author.Tests.{eqb-true, eq-eqb, leb-true, le-leb}
+use borrow.Author.Tests.{leb-true, le-leb}
 use Rattle.event.specs.Parser.{Result, ok, refuse, Parser, ended}
 use Rattle.event.specs.Outcome.{Outcome, done, refused, outcome, limited}
 use Rattle.event.proofs.Codes.{Codes, At, nil}
@@ -32,10 +32,6 @@ module _ {E A B : Type 0} {p : Parser E A} {print : A → List E} {Good : A → 
 pub passed : {A : Type 0} (b : Bool) (x : Outcome A) (n k : ℕ) (l : List A) → cond b x (refused n k) ≡ done l → (b ≡ true) × (x ≡ done l)
 passed true x n k l e = (refl, e)
 passed false x n k l e = let z : _≡_ {A = ℕ} 0 1 = cc in absurd (omega arith)
-
-pub both-true : (a b : Bool) → a && b ≡ true → (a ≡ true) × (b ≡ true)
-both-true true b e = (refl, e)
-both-true false b e = (e, cc)
 
 -- room: 12 and 24 come last, and only where there is too little
 pub limited-iff : {A : Type 0} (n room : ℕ) (x : Outcome A) (l : List A) → (limited n room x ≡ done l) ↔ ((x ≡ done l) × (length l ≤ room))

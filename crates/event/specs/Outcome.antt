@@ -1,8 +1,8 @@
 -- The outcome of a reading (rows) or a writing (words), and how a lent buffer and the answer follow from it.
 -- Assumes nothing.
-use Prim.Native.Nat.{ℕ, _+_}
-use mathlib.Core.Bool.{Bool, cond}
-use mathlib.Core.List.{List, [], _∷_, _++_}
+use Prim.Native.Nat.{ℕ}
+use mathlib.Core.Bool.{cond}
+use mathlib.Core.List.{List, [], _++_}
 use lib.Dec.{leb}
 use lib.ListN.{length, drop}
 use Rattle.event.specs.declared.Answer.{Answer}

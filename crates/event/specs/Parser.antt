@@ -1,9 +1,9 @@
 -- Parsers with refusals, over any element type: words when reading, rows when writing.
 -- Assumes nothing.
-use Prim.Native.Nat.{ℕ, zero, suc, _+_, _-_}
+use Prim.Native.Nat.{ℕ, zero, suc}
 use mathlib.Core.Bool.{Bool, true, false, cond, _&&_, _||_, not}
 use mathlib.Core.List.{List, [], _∷_, _++_}
-use lib.Dec.{T, leb, ltb, eqb}
+use lib.Dec.{T, leb, eqb}
 use lib.ListN.{length, take, drop}
 
 -- A value with the place and the input after it, or a refusal number and its place.
@@ -67,7 +67,7 @@ module _ {E : Type 0} where
   element n fields tests i [] = refuse n i
   element n fields tests i (x ∷ r) = judge (tests x) (fields x) i r
 
-  -- the elements after those that were to be filled; what is left of these is refused (by 0: no dialect leaves any)
+  -- the elements after those that were to be filled; what is left of these is refused, by 0 (each dialect shows that it never is: proofs/Refusals)
   abbrev pub filled : {A : Type 0} → List E → Result E A → Result E A
   filled rest (ok a j []) = ok a j rest
   filled rest (ok a j (x ∷ r)) = refuse 0 j
@@ -79,7 +79,7 @@ module _ {E : Type 0} where
 
 -- Items one after another, each under a state that the items before it made.
 module _ {E St A : Type 0} (item : St → Parser E A) (next : St → A → St) where
-  -- items up to a stop; the fuel bounds their number
+  -- items up to a stop; the fuel bounds their number, and lasts (by 0: each dialect shows that it does)
   abbrev pub upTo : (List E → Bool) → ℕ → St → Parser E (List A)
   upTo stop zero st i s = cond (stop s) (ok [] i s) (refuse 0 i)
   upTo stop (suc f) st i s = cond (stop s) (ok [] i s) ((item st >>= λ a. upTo stop f (next st a) >>= λ xs. give (a ∷ xs)) i s)

@@ -1,6 +1,6 @@
 -- The first 14 words of an event: refusals 1 to 4, the stamp packet, the event number packet. Over plain values.
 -- Assumes nothing.
-use Prim.Native.Nat.{ℕ, zero, suc, _+_, _-_, _^_, _≤_, _<_}
+use Prim.Native.Nat.{ℕ, suc, _+_, _-_, _^_, _≤_, _<_}
 use native.Mathlib.Omega.{arith}
 use mathlib.Core.Path.{_≡_, refl, ap, sym, _∙_}
 use mathlib.Core.Bool.{Bool, true, false, cond}
@@ -8,16 +8,16 @@ use mathlib.Core.List.{List, [], _∷_, _++_}
 use lib.Dec.{eqb, leb}
 use lib.ListN.{length, getD, drop}
 use lib.Seq.{slice, slice-empty}
-use borrow.Author.Tests.{eq-eqb, ne-eqb, le-leb, lt-leb, leb-true, leb-false, eqb-true}
+use borrow.Author.Tests.{ne-eqb, leb-true, leb-false, eqb-true}
 use Rattle.event.specs.declared.Answer.{Answer}
 use Rattle.event.specs.declared.Answer.the-variants.{Accepted, Refused}
 use Rattle.event.specs.declared.StampOrder.{StampOrder}
-use Rattle.event.specs.Parser.{Result, ok, refuse, Parser, then, _>>_, give, require, ended, filled, several, each}
+use Rattle.event.specs.Parser.{Result, ok, refuse, Parser, then, _>>_, require, ended, filled, several, each}
 use Rattle.event.specs.Words.{exactly}
-use Rattle.event.specs.Scanning.{storeRows, Leads}
+use Rattle.event.specs.Scanning.{storeRows}
 use Rattle.event.proofs.Leads.{leads-part, then-then}
 use Rattle.event.proofs.Loops.{to-the-end}
-use Rattle.s800_layout.specs.Event.{Packet, Run, runOf, Stamp, Number, Event, eventTag, stampTag, numberTag}
+use Rattle.s800_layout.specs.Event.{Packet, runOf, Event, eventTag, stampTag, numberTag}
 use Rattle.s800_layout.specs.Layout.{version, packetRows, runRows, rows, smallestEvent, largestEvent}
 use Rattle.s800_layout.specs.Reading.{between, packetOf, packet, stampContent, stampPacket, numberContent, numberPacket, runUpTo, eventOf, eventParser}
 use Rattle.s800.specs.Head.{frameOf, headFault, headPlace, stampAt, numberAt, stampRows, numberRows, Begins}

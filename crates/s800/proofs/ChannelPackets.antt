@@ -1,24 +1,21 @@
 -- The packets that end in channel words, opened: over plain values.
 -- Assumes nothing.
-use Prim.Native.Nat.{ℕ, zero, suc, _+_, _-_, _*_, _/_, _%_, _^_, _≤_, _<_}
+use Prim.Native.Nat.{ℕ, suc, _+_, _-_, _*_, _^_, _≤_, _<_}
 use native.Mathlib.Omega.{arith}
-use mathlib.Core.Path.{_≡_, refl, ap, sym, _∙_}
-use mathlib.Core.Bool.{Bool, true, false, cond}
-use mathlib.Core.List.{List, [], _∷_, _++_, map}
-use lib.Dec.{eqb, ltb, leb}
-use lib.ListN.{length, getD}
+use mathlib.Core.Path.{_≡_, refl, _∙_}
+use mathlib.Core.List.{List, [], _∷_}
+use lib.ListN.{getD}
 use lib.Seq.{slice, slice-empty}
 use borrow.Author.Tests.{eq-eqb, ne-eqb, lt-ltb, le-ltb, le-leb, lt-leb}
-use Rattle.event.specs.Parser.{Result, ok, refuse, then, _>>_, give, ended, many}
+use Rattle.event.specs.Parser.{then, give, ended}
 use Rattle.event.specs.Rows.{row}
-use Rattle.event.specs.Words.{exactly}
 use Rattle.event.specs.Scanning.{storeRows}
 use Rattle.event.specs.Channels.{present, others}
 use Rattle.event.proofs.Ends.{ends-many}
 use Rattle.event.proofs.Leads.{then-then}
 use Rattle.event.proofs.Loops.{filled-nil}
 use Rattle.event.proofs.Turns.{at-word}
-use Rattle.s800_layout.specs.Event.{Datum, energies, trigger, timeOfFlight, ionChamber, hodoscope, vmeAdc, energiesTag, ChannelFormat, triggerTime, flightTime, energy16, adcEnergy}
+use Rattle.s800_layout.specs.Event.{energies, trigger, timeOfFlight, ionChamber, hodoscope, vmeAdc, energiesTag, triggerTime, flightTime, energy16, adcEnergy}
 use Rattle.s800_layout.specs.Layout.{channels}
 use Rattle.s800_layout.specs.Reading.{datum, channelWords}
 use Rattle.s800.specs.declared.Opened.{Opened}

@@ -1,18 +1,17 @@
 -- Channel words as the code reads them: a word's refusal, and what a loop over channel words does at each.
 -- Assumes nothing.
-use Prim.Native.Nat.{ℕ, zero, suc, _+_, _*_, _/_, _%_, _^_, _≤_, _<_}
+use Prim.Native.Nat.{ℕ, suc, _+_, _*_, _/_, _%_, _^_, _<_}
 use native.Mathlib.Omega.{arith}
 use native.Mathlib.Nat.{div-add-mod', mod-lt}
-use mathlib.Core.Path.{_≡_, refl, ap, sym, _∙_}
+use mathlib.Core.Path.{_≡_, refl, sym, _∙_}
 use mathlib.Core.Bool.{Bool, true, false, cond, not, _||_}
-use mathlib.Core.List.{List, [], _∷_}
-use lib.Dec.{eqb, ltb}
+use mathlib.Core.List.{List, _∷_}
+use lib.Dec.{eqb}
 use lib.Pow.{pow-pos}
 use borrow.Author.Tests.{eq-eqb, lt-ltb}
-use Rattle.event.specs.Parser.{Result, ok, refuse, fresh, member}
+use Rattle.event.specs.Parser.{ok, refuse, fresh}
 use Rattle.event.specs.Channels.{present}
 use Rattle.event.proofs.ChannelLaws.{Blocked, among}
-use Rattle.s800_layout.specs.Layout.{datumWord}
 use Rattle.s800_layout.specs.Reading.{datumOf, datum}
 use Rattle.s800.specs.declared.Format.{Format}
 use Rattle.s800.specs.Channel.{bitsOf, formatOf, channelOf, faultOf}

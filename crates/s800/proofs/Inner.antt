@@ -1,13 +1,13 @@
 -- An inner packet at place i, among the words up to e: its length, its tag, and what it holds.
 -- Assumes nothing.
-use Prim.Native.Nat.{ℕ, zero, suc, _+_, _-_, _≤_, _<_}
+use Prim.Native.Nat.{ℕ, suc, _+_, _-_, _≤_}
 use native.Mathlib.Omega.{arith}
-use mathlib.Core.Path.{_≡_, refl, ap, sym, _∙_}
-use mathlib.Core.List.{List, [], _∷_}
+use mathlib.Core.Path.{_≡_, _∙_}
+use mathlib.Core.List.{List, _∷_}
 use lib.ListN.{length, getD}
 use lib.Seq.{slice}
 use borrow.Author.Tests.{eq-eqb, ne-eqb}
-use Rattle.event.specs.Parser.{Result, refuse, Parser, _>>_, filled}
+use Rattle.event.specs.Parser.{refuse, Parser, _>>_, filled}
 use Rattle.event.specs.Words.{exactly}
 use Rattle.event.proofs.Loops.{within-slice}
 use Rattle.event.proofs.Turns.{at-word}

@@ -1,24 +1,22 @@
 -- Packets opened after their tags: what all forms share.
 -- Assumes nothing.
-use Prim.Native.Nat.{ℕ, zero, suc, _+_, _-_, _*_, _/_, _%_, _^_, _≤_, _<_}
+use Prim.Native.Nat.{ℕ, _+_, _^_, _≤_, _<_}
 use native.Mathlib.Omega.{arith}
-use mathlib.Core.Path.{_≡_, refl, ap, sym, _∙_, subst}
-use mathlib.Core.Bool.{Bool, true, false, cond, not, _&&_}
+use mathlib.Core.Path.{_≡_, refl, ap, sym, _∙_}
+use mathlib.Core.Bool.{Bool, true, false, not}
 use mathlib.Core.List.{List, [], _∷_, _++_, map}
-use lib.Dec.{eqb, ltb, leb}
-use lib.ListN.{length, getD}
+use lib.Dec.{leb}
+use lib.ListN.{length}
 use lib.Seq.{slice, slice-empty}
-use borrow.Author.Tests.{eq-eqb, ne-eqb, lt-ltb, le-ltb, le-leb, lt-leb, leb-true}
+use borrow.Author.Tests.{le-leb, leb-true}
 use Rattle.event.specs.declared.Answer.the-variants.{Accepted}
 use Rattle.event.specs.declared.Row.{Row}
-use Rattle.event.specs.Parser.{Result, ok, refuse, then, give, each}
-use Rattle.event.specs.Rows.{row}
+use Rattle.event.specs.Parser.{refuse, then, give, each}
 use Rattle.event.specs.Scanning.{storeRows, Scanned}
 use Rattle.event.proofs.Elements.{each-map}
 use Rattle.event.proofs.Leads.{leads-part, leads-done}
-use Rattle.event.proofs.Turns.{at-word}
-use Rattle.s800_layout.specs.Event.{Datum, Form, trigger, timeOfFlight, Content, Packet, ChannelFormat, triggerTime, flightTime}
-use Rattle.s800_layout.specs.Layout.{datumRow, packetRows, contentRows}
+use Rattle.s800_layout.specs.Event.{Datum, Form, Content, ChannelFormat}
+use Rattle.s800_layout.specs.Layout.{datumRow, packetRows}
 use Rattle.s800_layout.specs.Reading.{between, allowedLength, channelWords}
 use Rattle.s800.specs.declared.Format.{Format}
 use Rattle.s800.specs.declared.Opened.{Opened}

@@ -1,21 +1,18 @@
 -- One packet of the run: from its first word to its form's own words, and to the packet after it. Over plain values.
 -- Assumes nothing.
-use Prim.Native.Nat.{ℕ, zero, suc, _+_, _-_, _≤_, _<_}
+use Prim.Native.Nat.{ℕ, suc, _+_, _-_, _≤_, _<_}
 use native.Mathlib.Omega.{arith}
-use mathlib.Core.Path.{_≡_, refl, ap, sym, _∙_}
+use mathlib.Core.Path.{_≡_, refl, _∙_}
 use mathlib.Core.Bool.{Bool, true, false, cond}
-use mathlib.Core.List.{List, [], _∷_, _++_}
+use mathlib.Core.List.{List}
 use lib.Dec.{T, eqb}
 use lib.ListN.{length, getD, drop}
 use lib.Seq.{slice, length-slice}
 use borrow.Author.Tests.{eq-eqb}
-use Rattle.event.specs.declared.Answer.{Answer}
-use Rattle.event.specs.declared.Answer.the-variants.{Accepted}
-use Rattle.event.specs.Parser.{Result, ok, refuse, Parser, then, give, ended, filled, several, each, alone}
-use Rattle.event.specs.Scanning.{Scanned, Leads}
+use Rattle.event.specs.Parser.{Result, ok, refuse, then, give, ended, filled}
 use Rattle.event.proofs.Leads.{leads-trans}
 use Rattle.event.proofs.Loops.{leads-filled}
-use Rattle.s800_layout.specs.Event.{Form, trigger, Content, Packet, tag, formOf}
+use Rattle.s800_layout.specs.Event.{Form, Content, Packet, tag, formOf}
 use Rattle.s800_layout.specs.Layout.{packetRows}
 use Rattle.s800_layout.specs.Reading.{allowedLength, content, packetContent, formWord, packet}
 use Rattle.s800_layout.proofs.Lengths.{form-back}

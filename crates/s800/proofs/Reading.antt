@@ -1,11 +1,11 @@
 -- The scan of a whole event: the packets after the first 14 words, one after another. Over plain values.
 -- Assumes nothing.
-use Prim.Native.Nat.{ℕ, zero, suc, _+_, _%_, _^_, _≤_, _<_}
+use Prim.Native.Nat.{ℕ, suc, _+_, _%_, _^_, _≤_, _<_}
 use native.Mathlib.Nat.{le-refl}
 use native.Mathlib.Omega.{arith}
 use mathlib.Core.Path.{_≡_, refl, ap, sym, _∙_}
 use mathlib.Core.Bool.{cond}
-use mathlib.Core.List.{List, [], _∷_, _++_}
+use mathlib.Core.List.{List, [], _∷_}
 use lib.Dec.{eqb}
 use lib.ListN.{length, getD, drop}
 use lib.Seq.{slice, drop-cons}
@@ -16,13 +16,12 @@ use Rattle.event.specs.declared.StampOrder.{StampOrder}
 use Rattle.event.specs.Parser.{Result, ok, refuse, ended, several, each, alone}
 use Rattle.event.specs.Channels.{insert}
 use Rattle.event.specs.Rows.{storeRow}
-use Rattle.event.specs.Scanning.{storeRows, Scanned}
+use Rattle.event.specs.Scanning.{Scanned}
 use Rattle.event.proofs.ChannelLaws.{Blocked, blocked-more}
-use Rattle.event.proofs.Codes.{Codes}
 use Rattle.event.proofs.Ends.{placed}
 use Rattle.event.proofs.Leads.{refused-scan, scanned-refuse}
 use Rattle.event.proofs.Loops.{to-the-end}
-use Rattle.event.proofs.Turns.{Reached, begin, finish, stop, step, at-word}
+use Rattle.event.proofs.Turns.{Reached, begin, stop, step, at-word}
 use Rattle.s800_layout.specs.Event.{Packet}
 use Rattle.s800_layout.specs.Layout.{contentWords, packetRows, rows, channels}
 use Rattle.s800_layout.specs.Reading.{datum, datumOf, channelWords, packet, eventParser}

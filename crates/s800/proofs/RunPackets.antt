@@ -1,15 +1,15 @@
 -- The packets whose content is read whole, opened: over plain values.
 -- Assumes nothing.
-use Prim.Native.Nat.{ℕ, zero, suc, _+_, _-_, _%_, _^_, _≤_, _<_}
+use Prim.Native.Nat.{ℕ, suc, _+_, _-_, _%_, _^_, _≤_, _<_}
 use native.Mathlib.Nat.{le-refl}
 use native.Mathlib.Omega.{arith}
 use mathlib.Core.Path.{_≡_, refl, ap, sym, _∙_}
 use mathlib.Core.Bool.{Bool, true, false, _&&_}
-use mathlib.Core.List.{List, [], _∷_, _++_, map}
+use mathlib.Core.List.{List, [], _∷_, _++_}
 use lib.Dec.{eqb, leb}
 use lib.ListN.{length, getD}
 use lib.Seq.{slice, slice-empty}
-use borrow.Author.Tests.{eq-eqb, ne-eqb, lt-ltb, le-leb, lt-leb}
+use borrow.Author.Tests.{eq-eqb, ne-eqb, le-leb, lt-leb}
 use Rattle.event.specs.declared.Answer.{Answer}
 use Rattle.event.specs.declared.Answer.the-variants.{Accepted, Refused}
 use Rattle.event.specs.declared.Row.{Row}
@@ -20,7 +20,6 @@ use Rattle.event.proofs.Elements.{each-map, codes-several}
 use Rattle.event.proofs.Ends.{ends-many}
 use Rattle.event.proofs.Leads.{leads-part, then-then, refused-scan, scanned-refuse, store-append}
 use Rattle.event.proofs.Loops.{at-end}
-use Rattle.event.proofs.Turns.{at-word}
 use Rattle.s800_layout.specs.Event.{Sample, Samples, Crdc, Opaque, Form, scintillator, crdc, opaque, Packet, samplesTag, anodeTag, tag}
 use Rattle.s800_layout.specs.Layout.{pairRows, pairChannels, sampleRow, packetRows}
 use Rattle.s800_layout.specs.Reading.{even, allowedLength, inner, whole, pair, sample, samples, anode}

@@ -1,24 +1,24 @@
 -- The loops over content words that come in runs: one turn each, over plain values.
 -- Assumes nothing.
-use Prim.Native.Nat.{ℕ, zero, suc, _+_, _-_, _*_, _/_, _%_, _^_, _≤_, _<_}
+use Prim.Native.Nat.{ℕ, suc, _+_, _*_, _/_, _%_, _^_, _≤_, _<_}
 use native.Mathlib.Omega.{arith}
 use native.Mathlib.Numerals.{add-one}
-use mathlib.Core.Path.{_≡_, refl, ap, sym, _∙_, subst}
-use mathlib.Core.Bool.{Bool, true, false, cond}
+use mathlib.Core.Path.{_≡_, refl, ap, _∙_, subst}
+use mathlib.Core.Bool.{true, cond}
 use mathlib.Core.List.{List, [], _∷_}
 use lib.Dec.{eqb, ltb}
 use lib.ListN.{length, getD}
 use lib.Seq.{slice}
 use borrow.Author.Tests.{eq-eqb, ne-eqb, lt-ltb, le-ltb}
 use Rattle.event.specs.declared.Answer.{Answer}
-use Rattle.event.specs.declared.Answer.the-variants.{Accepted, Refused}
-use Rattle.event.specs.Parser.{Result, ok, refuse, then, ended, many, several, each, alone}
+use Rattle.event.specs.declared.Answer.the-variants.{Refused}
+use Rattle.event.specs.Parser.{ok, refuse, then, ended, many, several, each, alone}
 use Rattle.event.specs.Channels.{present, insert, others}
 use Rattle.event.specs.Rows.{row, storeRow}
 use Rattle.event.specs.Scanning.{storeRows, Scanned}
 use Rattle.event.proofs.ChannelLaws.{Blocked, blocked-more}
 use Rattle.event.proofs.Turns.{Reached, at-word, step, stop}
-use Rattle.s800_layout.specs.Event.{Datum, Pair, ChannelFormat, pairEnergy}
+use Rattle.s800_layout.specs.Event.{ChannelFormat, pairEnergy}
 use Rattle.s800_layout.specs.Layout.{channelWord, sampleHeadWord, sampleDatumWord, sampleRow, pairRows, pairChannels}
 use Rattle.s800_layout.specs.Reading.{whole, datumOf, datum, pair, sampleHeadOf, sampleDatumOf, sample}
 use Rattle.s800_layout.proofs.Words.{codes-whole, codes-pair, codes-sample}

@@ -1,6 +1,6 @@
 -- A hodoscope's hits, and the one energy of an object pin: over plain values.
 -- Assumes nothing.
-use Prim.Native.Nat.{ℕ, zero, suc, _+_, _-_, _*_, _^_, _≤_, _<_}
+use Prim.Native.Nat.{ℕ, suc, _+_, _^_, _≤_, _<_}
 use native.Mathlib.Omega.{arith}
 use mathlib.Core.Path.{_≡_, refl, ap, sym, _∙_, subst}
 use mathlib.Core.Bool.{Bool, true, false, cond}
@@ -9,24 +9,22 @@ use lib.Dec.{eqb}
 use lib.ListN.{length, getD}
 use lib.Seq.{slice, slice-empty}
 use borrow.Author.Tests.{eq-eqb, ne-eqb, lt-ltb}
-use Rattle.event.specs.declared.Answer.the-variants.{Accepted}
 use Rattle.event.specs.declared.Row.{Row}
 use Rattle.event.specs.Parser.{Result, ok, refuse, then, give, each}
 use Rattle.event.specs.Rows.{row}
 use Rattle.event.specs.Scanning.{storeRows, Leads}
 use Rattle.event.proofs.ChannelLaws.{blocked-none}
-use Rattle.event.proofs.Leads.{leads-part, leads-trans, leads-refl}
+use Rattle.event.proofs.Leads.{leads-part, leads-trans}
 use Rattle.event.proofs.Turns.{at-word}
-use Rattle.s800_layout.specs.Event.{Datum, hits, hodoscope, objectPin, Packet, ChannelFormat, energy16}
-use Rattle.s800_layout.specs.Layout.{datumRow, packetRows}
+use Rattle.s800_layout.specs.Event.{Datum, hits, hodoscope, objectPin, Packet, ChannelFormat}
+use Rattle.s800_layout.specs.Layout.{packetRows}
 use Rattle.s800_layout.specs.Reading.{datum, datumOf, channelWords}
 use Rattle.s800.specs.declared.Format.{Format}
 use Rattle.s800.specs.declared.Opened.{Opened}
 use Rattle.s800.specs.declared.Opened.the-variants.{Channels, Refused}
-use Rattle.s800.specs.Channel.{formatOf, faultOf, channelRow, channelRows, energiesFormat}
+use Rattle.s800.specs.Channel.{formatOf, faultOf, channelRows, energiesFormat}
 use Rattle.s800.specs.Opening.{Standing, HodoscopeHits, restOf, OpensAs}
 use Rattle.s800.proofs.Channels.{judged}
-use Rattle.s800.proofs.Runs.{read-whole}
 use Rattle.s800.proofs.Opening.{is-between, opens-refused, opens-complete}
 use Rattle.s800.proofs.ChannelPackets.{first-word, energies-format}
 

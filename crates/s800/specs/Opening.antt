@@ -11,7 +11,7 @@ use Rattle.event.specs.declared.Row.{Row}
 use Rattle.event.specs.Parser.{Result, refuse, _>>_, require, each}
 use Rattle.event.specs.Rows.{row}
 use Rattle.event.specs.Scanning.{Leads}
-use Rattle.s800_layout.specs.Event.{Datum, Form, crdc, Packet, samplesTag, tag}
+use Rattle.s800_layout.specs.Event.{Form, crdc, Packet, samplesTag, tag}
 use Rattle.s800_layout.specs.Layout.{packetRows}
 use Rattle.s800_layout.specs.Reading.{allowedLength, channelWords, packetContent, packet}
 use Rattle.s800.specs.declared.Format.{Format}

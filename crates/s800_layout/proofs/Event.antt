@@ -1,20 +1,18 @@
 -- The parts of an event in their order: a code for each part makes one of the event. Then the words.
 -- Assumes nothing.
-use Prim.Native.Nat.{ℕ, zero, suc}
-use native.Mathlib.Omega.{arith}
-use mathlib.Core.Path.{_≡_, refl, ap, sym, _∙_}
-use mathlib.Core.Bool.{Bool, true, false, _&&_}
+use Prim.Native.Nat.{ℕ}
+use mathlib.Core.Path.{_≡_, refl, ap, sym}
+use mathlib.Core.Bool.{Bool, true, false}
 use mathlib.Core.List.{List, [], _∷_, _++_}
 use lib.Dec.{T}
-use lib.ListN.{length}
-use Rattle.event.specs.Parser.{Parser, Passed, ended, _>>=_, require, several, many, alone, All, each}
+use Rattle.event.specs.Parser.{Parser, Passed, ended, require, several, alone, All, each}
 use Rattle.event.specs.Words.{exactly}
 use Rattle.event.proofs.Codes.{Codes, any, At, same, codes-require}
 use Rattle.event.proofs.Sequences.{codes-bind, codes-map}
 use Rattle.event.proofs.Ends.{Ends, ends-bind, ends-map, ends-many}
 use Rattle.event.proofs.Elements.{codes-exactly, codes-several-at}
 use Rattle.s800_layout.specs.Event.{Packet, Run, end, plain, runOf, Stamp, Number, Event, eventTag}
-use Rattle.s800_layout.specs.Layout.{framed, stampWords, numberWords, packetWords, runWords, version, packetsWords, smallestEvent, largestEvent, stampChecks, numberChecks, ValidContent, ValidRun, Formed}
+use Rattle.s800_layout.specs.Layout.{packetWords, runWords, version, packetsWords, smallestEvent, largestEvent, stampChecks, numberChecks, ValidContent, ValidRun, Formed}
 use Rattle.s800_layout.specs.Reading.{between, packet, stampPacket, numberPacket, runUpTo, eventOf, eventParser}
 use Rattle.s800_layout.proofs.Words as Words
 

@@ -1,17 +1,17 @@
 -- What follows from the tables: a tag names one form, and a valid content has a length that its tag allows.
 -- Assumes nothing.
-use Prim.Native.Nat.{ℕ, zero, suc, _+_, _%_, _≤_}
+use Prim.Native.Nat.{ℕ, _+_, _%_, _≤_}
 use native.Mathlib.Omega.{arith}
-use mathlib.Core.Path.{_≡_, refl, ap}
-use mathlib.Core.Bool.{Bool, true, false, _&&_}
-use mathlib.Core.List.{List, [], _∷_, _++_, map}
-use lib.Dec.{T, leb, eqb}
+use mathlib.Core.Path.{_≡_, refl}
+use mathlib.Core.Bool.{Bool, _&&_}
+use mathlib.Core.List.{List, [], _∷_, map}
+use lib.Dec.{T}
 use lib.ListN.{length, length-append, length-map}
 use borrow.Author.Tests.{eq-eqb, le-leb}
-use Rattle.event.specs.Parser.{Goods, each}
+use Rattle.event.specs.Parser.{each}
 use Rattle.event.proofs.Keys.{room, at-most}
-use Rattle.s800_layout.specs.Event.{Datum, Pair, Hodoscope, energies, hits, Opaque, focalPlaneTime, intermediateCrdc, targetPin, intermediateTrack, intermediatePpac, objectScintillator, Form, trigger, timeOfFlight, scintillator, ionChamber, crdc, hodoscope, objectPin, vmeAdc, opaque, Content, samplesTag, anodeTag, tag, formOf, ChannelFormat, triggerTime, flightTime, pairEnergy, energy16, adcEnergy}
-use Rattle.s800_layout.specs.Layout.{framed, datumWord, pairWords, sampleWords, samplesWords, anodeWords, contentWords, channels, pairChannels, ValidDatum, ValidData, ValidPair, ValidContent}
+use Rattle.s800_layout.specs.Event.{Datum, Pair, energies, hits, focalPlaneTime, intermediateCrdc, targetPin, intermediateTrack, intermediatePpac, objectScintillator, Form, trigger, timeOfFlight, scintillator, ionChamber, crdc, hodoscope, objectPin, vmeAdc, opaque, Content, samplesTag, anodeTag, tag, formOf, ChannelFormat, triggerTime, flightTime, pairEnergy, energy16, adcEnergy}
+use Rattle.s800_layout.specs.Layout.{framed, datumWord, pairWords, sampleWords, samplesWords, anodeWords, contentWords, ValidDatum, ValidData, ValidPair, ValidContent}
 use Rattle.s800_layout.specs.Reading.{between, even, allowedLength}
 
 pub form-back : (f : Form) → formOf (tag f) ≡ f

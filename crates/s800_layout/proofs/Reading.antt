@@ -4,20 +4,19 @@ use Prim.Native.Nat.{ℕ, suc, _+_, _≤_}
 use native.Mathlib.Omega.{arith}
 use mathlib.Core.Path.{_≡_, refl, ap, sym, _∙_, subst}
 use mathlib.Core.Logic.{_↔_}
-use mathlib.Core.Bool.{Bool, true, false, cond, _&&_}
-use mathlib.Core.List.{List, [], _∷_, _++_}
-use lib.Dec.{T, leb, leb→le}
+use mathlib.Core.List.{List, _∷_}
+use lib.Dec.{leb, leb→le}
 use lib.ListN.{length}
 use borrow.Author.Tests.{le-leb}
 use Rattle.event.specs.declared.Row.{Row}
 use Rattle.event.specs.declared.StampOrder.{StampOrder}
-use Rattle.event.specs.Outcome.{Outcome, done, refused, outcome}
+use Rattle.event.specs.Outcome.{done, outcome}
 use Rattle.event.specs.Demands.{OneEvent}
 use Rattle.event.proofs.Elements.{both}
-use Rattle.event.proofs.Whole.{whole, accepted}
+use Rattle.event.proofs.Whole.{whole, accepted, limited-iff}
 use Rattle.s800_layout.specs.Event.{Event, eventTag}
-use Rattle.s800_layout.specs.Layout.{version, packetsWords, words, rows, smallestEvent, largestEvent, Formed, Valid}
-use Rattle.s800_layout.specs.Reading.{eventParser, reading}
+use Rattle.s800_layout.specs.Layout.{version, packetsWords, words, rows, smallestEvent, largestEvent, Valid}
+use Rattle.s800_layout.specs.Reading.{eventParser, reading, readingInto}
 use Rattle.s800_layout.proofs.Event.{codes-words, ends-words}
 
 abbrev pub SEvent : StampOrder → List ℕ → List Row → Type 0
@@ -46,3 +45,10 @@ reading-iff o ws rs = (to, from)
         let k : reading o (words e) ≡ done (rows o e)
         = subst (λ (l : List ℕ). outcome (λ x. done (rows o x)) (eventParser (length (words e)) 0 l) ≡ done (rows o e)) (counted (length (words e)) e refl) h in
         rw (← v .itsWords, ← v .itsRows) k
+
+-- Demand 2 for a reading: accepted exactly when one valid event has these words, and there is room for its rows, which are the rows given.
+pub reading-in-room : (room : ℕ) (o : StampOrder) (ws : List ℕ) (rs : List Row) → (readingInto room o ws ≡ done rs) ↔ (SEvent o ws rs × (length rs ≤ room))
+reading-in-room room o ws rs =
+    let fits = limited-iff 12 room (reading o ws) rs in
+    let event = reading-iff o ws rs in
+    (λ e. let h = fits .0 e in (event .0 (h .0), h .1), λ v. fits .1 (event .1 (v .0), v .1))

@@ -1,21 +1,21 @@
 -- The parser of S's words codes `words`.
 -- Assumes nothing.
-use Prim.Native.Nat.{ℕ, zero, suc, _+_, _-_, _*_, _/_, _%_, _^_, _≤_, _<_}
+use Prim.Native.Nat.{ℕ, _+_, _-_, _/_, _%_, _^_, _≤_}
 use native.Mathlib.Omega.{arith}
 use mathlib.Core.Path.{_≡_, refl, ap, sym, _∙_, subst}
-use mathlib.Core.Bool.{Bool, true, false, cond, not}
-use mathlib.Core.List.{List, [], _∷_, _++_, map}
-use lib.Dec.{T, ltb, leb, eqb, ltb→lt, leb→le, eqb→eq}
-use lib.ListN.{length, length-append, length-map}
+use mathlib.Core.Bool.{Bool, true, false}
+use mathlib.Core.List.{List, [], _∷_, map}
+use lib.Dec.{T, ltb, leb, eqb, ltb→lt, leb→le}
+use lib.ListN.{length, length-append}
 use lib.Pow.{high, low}
-use borrow.Author.Tests.{eqb-true, eqb-false, eq-eqb, ne-eqb, lt-ltb, le-leb}
-use Rattle.event.specs.Parser.{Parser, Test, Passed, ended, _>>=_, _>>_, give, many, several, Goods, All, each}
-use Rattle.event.specs.Words.{layout, belowChecks, wordBelow}
-use Rattle.event.proofs.Codes.{Codes, any, At, T-true, true-T, same, less, codes-give, codes-here, codes-require, codes-within, codes-cond}
+use borrow.Author.Tests.{eqb-true, eqb-false, lt-ltb, le-leb}
+use Rattle.event.specs.Parser.{Parser, Passed, ended, _>>=_, give, All}
+use Rattle.event.specs.Words.{belowChecks}
+use Rattle.event.proofs.Codes.{Codes, any, At, true-T, same, less, codes-here, codes-require, codes-within, codes-cond}
 use Rattle.event.proofs.Sequences.{codes-bind, codes-map, codes-image}
 use Rattle.event.proofs.Many.{codes-many}
 use Rattle.event.proofs.Elements.{codes-layout, codes-exactly, codes-any, codes-below, prints-map, prints-each, map-self, codes-several, each-map}
-use Rattle.s800_layout.specs.Event.{Datum, Trigger, Pair, SampleHead, SampleDatum, Sample, Samples, Anode, Crdc, Registers, Hodoscope, energies, hits, Adc, Opaque, Form, trigger, timeOfFlight, scintillator, ionChamber, crdc, hodoscope, objectPin, vmeAdc, opaque, Content, Packet, Stamp, Number, stampTag, numberTag, energiesTag, samplesTag, anodeTag, tag, formOf, idOf, ChannelFormat, triggerTime, flightTime, pairEnergy, energy16, adcEnergy}
+use Rattle.s800_layout.specs.Event.{Datum, Trigger, Pair, SampleHead, SampleDatum, Sample, Samples, Anode, Crdc, Registers, Hodoscope, energies, hits, Adc, Form, trigger, timeOfFlight, scintillator, ionChamber, crdc, hodoscope, objectPin, vmeAdc, opaque, Content, Packet, Stamp, Number, stampTag, numberTag, energiesTag, samplesTag, anodeTag, tag, formOf, idOf, patternBound, ChannelFormat, triggerTime, flightTime, pairEnergy, energy16, adcEnergy}
 use Rattle.s800_layout.specs.Layout.{framed, channelWord, datumWord, pairWords, sampleHeadWord, sampleDatumWord, sampleWords, samplesWords, anodeWords, registerWords, contentWords, packetWords, stampWords, numberWords, stampChecks, numberChecks, idChecks, datumChecks, sampleHeadChecks, sampleDatumChecks, sampleChecks, anodeChecks, registerChecks, channels, pairChannels, ValidDatum, ValidData, ValidPair, ValidContent}
 use Rattle.s800_layout.specs.Reading.{allowedLength, packetOf, inner, whole, idWord, datumOf, datum, channelWords, pair, sampleHeadOf, sampleDatumOf, sample, samples, anode, registers, hitsContent, energiesContent, content, packet, stampPacket, numberPacket}
 use Rattle.s800_layout.proofs.Lengths.{length-allowed, form-back}
@@ -176,7 +176,7 @@ free c = same c (λ a g. (g, tt)) (λ a g. g .0) (λ a g. refl)
 
 pub codes-content : (f : Form) (p n : ℕ) → Codes (At ended) (content f p n) (contentWords f) (λ c. ValidContent f c × Fits f n c)
 codes-content trigger p n = free (same
-    (codes-bind (λ c. c .pattern) (codes-below 10 (2 ^ 5)) (λ w g. codes-map _ (λ c. c .times) (codes-channels triggerTime) (λ xs. refl)) (λ w c g. ap (λ (y : Trigger). y .pattern) (g .1)))
+    (codes-bind (λ c. c .pattern) (codes-below 10 patternBound) (λ w g. codes-map _ (λ c. c .times) (codes-channels triggerTime) (λ xs. refl)) (λ w c g. ap (λ (y : Trigger). y .pattern) (g .1)))
     (λ c g. (g .0, g .1 .0)) (λ c g. (g .0, (g .1, refl))) (λ c g. refl))
 codes-content timeOfFlight p n = free (codes-channels flightTime)
 codes-content scintillator p n = free (same (codes-many pairChannels codes-pair ended (λ st x g r. refl) refl []) (λ xs g. g) (λ xs g. g) (λ xs g. prints-each pairWords pairChannels [] xs))

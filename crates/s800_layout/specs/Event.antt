@@ -1,7 +1,7 @@
 -- Dialect S as data: one S800 event, version 5, before any word or row is written (documents 000 and 01).
 -- Assumes nothing.
-use Prim.Native.Nat.{ℕ, zero, suc, _+_, _-_}
-use mathlib.Core.Bool.{Bool, cond}
+use Prim.Native.Nat.{ℕ, zero, suc, _^_}
+use mathlib.Core.Bool.{cond}
 use mathlib.Core.List.{List, [], _∷_, _++_}
 use lib.Dec.{eqb}
 
@@ -154,7 +154,7 @@ forms =
     opaque focalPlaneTime ∷ opaque intermediateCrdc ∷ opaque targetPin ∷ opaque intermediateTrack ∷
     opaque intermediatePpac ∷ opaque objectScintillator ∷ []
 
--- the form of a tag; any form where no form has it
+-- the form of a tag; where no form has it, one whose own tag is another
 abbrev pub lookUp : List Form → ℕ → Form
 lookUp [] t = trigger
 lookUp (f ∷ fs) t = cond (eqb t (tag f)) f (lookUp fs t)
@@ -185,6 +185,10 @@ idOf hodoscope (hits h) = 2
 idOf objectPin c = 0
 idOf vmeAdc c = c .id
 idOf (opaque k) c = 0
+
+-- the trigger pattern: bits 5-15 are zero
+abbrev pub patternBound : ℕ
+patternBound = 2 ^ 5
 
 -- Channel words: the channel above, the number in the bits below.
 pub record ChannelFormat : Type 0 where

@@ -1,7 +1,6 @@
 -- Dialect S: the words and the rows of an event, and the rules that a valid one keeps (document 01).
 -- Assumes nothing.
 use Prim.Native.Nat.{ℕ, _+_, _*_, _^_, _≤_}
-use mathlib.Core.Bool.{Bool}
 use mathlib.Core.List.{List, [], _∷_, _++_, map}
 use lib.Dec.{T, ltb, leb}
 use lib.ListN.{length}
@@ -11,7 +10,7 @@ use Rattle.event.specs.declared.StampOrder.the-variants.{Crossed, Rising}
 use Rattle.event.specs.Parser.{Test, test, Passed, Goods, All, each, fresh, member}
 use Rattle.event.specs.Words.{belowChecks}
 use Rattle.event.specs.Rows.{row}
-use Rattle.s800_layout.specs.Event.{Datum, Trigger, Pair, SampleHead, SampleDatum, Sample, Samples, Anode, Crdc, Registers, Hodoscope, energies, hits, Adc, Opaque, Form, trigger, timeOfFlight, scintillator, ionChamber, crdc, hodoscope, objectPin, vmeAdc, opaque, Content, Packet, Run, end, plain, Stamp, Number, Event, eventTag, stampTag, numberTag, energiesTag, samplesTag, anodeTag, tag, largestId, idOf, ChannelFormat, triggerTime, flightTime, pairEnergy, energy16, adcEnergy}
+use Rattle.s800_layout.specs.Event.{Datum, Pair, SampleHead, SampleDatum, Sample, Samples, Anode, Registers, energies, hits, Form, trigger, timeOfFlight, scintillator, ionChamber, crdc, hodoscope, objectPin, vmeAdc, opaque, Content, Packet, Run, end, plain, Stamp, Number, Event, eventTag, stampTag, numberTag, energiesTag, samplesTag, anodeTag, tag, largestId, idOf, patternBound, ChannelFormat, triggerTime, flightTime, pairEnergy, energy16, adcEnergy}
 
 -- Words.
 
@@ -186,10 +185,10 @@ abbrev pub ValidData : ChannelFormat → List Datum → Type 0
 ValidData f xs = Goods (ValidDatum f) channels [] xs
 
 abbrev pub ValidPair : List ℕ → Pair → Type 0
-ValidPair seen x = ValidDatum pairEnergy seen (x .energy) × Passed (belowChecks 0 (2 ^ 12) (x .time))
+ValidPair seen x = ValidDatum pairEnergy seen (x .energy) × Passed (belowChecks 0 (2 ^ pairEnergy .bits) (x .time))
 
 abbrev pub ValidContent : (f : Form) → Content f → Type 0
-ValidContent trigger c = Passed (belowChecks 0 (2 ^ 5) (c .pattern)) × ValidData triggerTime (c .times)
+ValidContent trigger c = Passed (belowChecks 0 patternBound (c .pattern)) × ValidData triggerTime (c .times)
 ValidContent timeOfFlight xs = ValidData flightTime xs
 ValidContent scintillator xs = Goods ValidPair pairChannels [] xs
 ValidContent ionChamber xs = ValidData energy16 xs
@@ -206,7 +205,7 @@ abbrev pub ValidRun : Run → Type 0
 ValidRun end = Unit {0}
 ValidRun (plain q r) = ValidContent (q .form) (q .content) × ValidRun r
 
--- an event has 14 to 4,096 words
+-- an event has 14 to 4,096 words (that it has 14 follows from its first two packets)
 abbrev pub smallestEvent : ℕ
 smallestEvent = 14
 

@@ -1,17 +1,17 @@
 -- Reading one event of dialect S: its rows, or the first refusal and its place. Each line is a rule, in the order of document 01.
 -- (A test that a word is below 2 ^ 16 never fails on 16-bit words.)
 -- Assumes nothing.
-use Prim.Native.Nat.{ℕ, suc, _+_, _-_, _*_, _/_, _%_, _^_}
-use mathlib.Core.Bool.{Bool, true, false, cond, _&&_}
-use mathlib.Core.List.{List, [], _∷_, _++_}
-use lib.Dec.{T, ltb, leb, eqb}
+use Prim.Native.Nat.{ℕ, _-_, _/_, _%_, _^_}
+use mathlib.Core.Bool.{Bool, cond, _&&_}
+use mathlib.Core.List.{List, []}
+use lib.Dec.{leb, eqb}
 use lib.ListN.{length}
 use Rattle.event.specs.declared.Row.{Row}
 use Rattle.event.specs.declared.StampOrder.{StampOrder}
-use Rattle.event.specs.Parser.{Parser, Test, ended, _>>=_, _>>_, give, here, require, within, many, several}
+use Rattle.event.specs.Parser.{Parser, ended, _>>=_, _>>_, give, here, require, within, many, several}
 use Rattle.event.specs.Words.{layout, exactly, anyWord, belowChecks, wordBelow}
 use Rattle.event.specs.Outcome.{Outcome, done, outcome, limited}
-use Rattle.s800_layout.specs.Event.{Datum, Trigger, Pair, SampleHead, SampleDatum, Sample, Samples, Anode, Crdc, Registers, Hodoscope, energies, hits, Adc, Opaque, Form, trigger, timeOfFlight, scintillator, ionChamber, crdc, hodoscope, objectPin, vmeAdc, opaque, Content, Packet, Run, runOf, Stamp, Number, Event, eventTag, stampTag, numberTag, energiesTag, samplesTag, anodeTag, tag, formOf, ChannelFormat, triggerTime, flightTime, pairEnergy, energy16, adcEnergy}
+use Rattle.s800_layout.specs.Event.{Datum, Pair, SampleHead, SampleDatum, Sample, Samples, Anode, Registers, Hodoscope, energies, hits, Form, trigger, timeOfFlight, scintillator, ionChamber, crdc, hodoscope, objectPin, vmeAdc, opaque, Content, Packet, Run, runOf, Stamp, Number, Event, eventTag, stampTag, numberTag, energiesTag, samplesTag, anodeTag, tag, formOf, patternBound, ChannelFormat, triggerTime, flightTime, pairEnergy, energy16, adcEnergy}
 use Rattle.s800_layout.specs.Layout.{channelWord, datumWord, sampleHeadWord, sampleDatumWord, version, rows, smallestEvent, largestEvent, idChecks, datumChecks, sampleHeadChecks, sampleDatumChecks, channels, pairChannels}
 
 abbrev pub between : ℕ → ℕ → ℕ → Bool
@@ -20,7 +20,7 @@ between low high n = leb low n && leb n high
 abbrev pub even : ℕ → Bool
 even n = eqb (n % 2) 0
 
--- 7: the lengths that each tag allows
+-- 7: the lengths that each tag allows. (Those of 0x5803 and 0x5804 stand with their packets; a hodoscope's id is not known yet, and id 2 has a rule of its own.)
 abbrev pub allowedLength : Form → ℕ → Bool
 allowedLength trigger n = between 3 7 n
 allowedLength timeOfFlight n = between 2 10 n
@@ -76,7 +76,7 @@ channelWords f = many (datum f) channels ended []
 abbrev pub pair : List ℕ → Parser ℕ Pair
 pair seen = do
   e ← datum pairEnergy seen
-  t ← layout 10 (_% 2 ^ 12) (channelWord pairEnergy (e .channel)) (belowChecks 10 (2 ^ 12))
+  t ← layout 10 (_% 2 ^ pairEnergy .bits) (channelWord pairEnergy (e .channel)) (belowChecks 10 (2 ^ pairEnergy .bits))
   give (record { energy = e; time = t })
 
 abbrev pub sampleHeadOf : ℕ → SampleHead
@@ -125,7 +125,7 @@ energiesContent id = do
 -- The content of the packet at place p, of length n: the words after its tag. 8 and 7 come first, then 9, 10 and 11 with the words rising.
 abbrev pub content : (f : Form) → (p n : ℕ) → Parser ℕ (Content f)
 content trigger p n = do
-  w ← wordBelow 10 (2 ^ 5)
+  w ← wordBelow 10 patternBound
   xs ← channelWords triggerTime
   give (record { pattern = w; times = xs })
 content timeOfFlight p n = channelWords flightTime
@@ -146,7 +146,7 @@ content vmeAdc p n = do
   give (record { id = id; energies = xs })
 content (opaque k) p n = several whole ended
 
--- 6: a tag that no form has; so 0x5803 and 0x5804 never come again
+-- 6: a word that is not the tag of its form; so 0x5803 and 0x5804 never come again
 abbrev pub formWord : Parser ℕ Form
 formWord = layout 6 formOf tag (λ f. [])
 

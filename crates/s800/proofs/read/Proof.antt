@@ -1,6 +1,4 @@
 -- `read` meets its contract. Assumes nothing.
-use mathlib.Core.Path.{refl}
-use native.Mathlib.Omega.{arith}
 use Rattle.event.proofs.Stores.{read-refused, read-crowded, read-fits}
 use Rattle.s800_layout.specs.Layout.{rows}
 use borrow.Author.Needs.{needs}

@@ -1,7 +1,5 @@
 -- `channel_packets::open_hits` meets its contract. Assumes nothing.
-use native.Mathlib.Omega.{arith}
 use mathlib.Core.Path.{_∙_}
-use Rattle.s800_layout.specs.Event.{hodoscope}
 use Rattle.s800.proofs.SinglePackets.{hits-length, hits-opens}
 use borrow.Author.Needs.{needs}
 use Rattle.s800.proofs.channel_packets.open_hits.Statement.{statement}

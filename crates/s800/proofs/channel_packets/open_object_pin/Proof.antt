@@ -1,7 +1,6 @@
 -- `channel_packets::open_object_pin` meets its contract. Assumes nothing.
 use Prim.Native.Nat.{_+_}
 use native.Mathlib.Omega.{arith}
-use mathlib.Core.Path.{_∙_}
 use borrow.Author.Tests.{ne-eqb}
 use Rattle.s800_layout.specs.Event.{objectPin}
 use Rattle.s800.proofs.Opening.{wrong-length}

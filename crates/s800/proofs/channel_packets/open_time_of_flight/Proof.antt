@@ -1,6 +1,4 @@
 -- `channel_packets::open_time_of_flight` meets its contract. Assumes nothing.
-use native.Mathlib.Omega.{arith}
-use mathlib.Core.Path.{_∙_}
 use Rattle.s800_layout.specs.Event.{timeOfFlight}
 use Rattle.s800.proofs.Opening.{inside, outside, wrong-length}
 use Rattle.s800.proofs.ChannelPackets.{flight-opens}

@@ -1,6 +1,5 @@
 -- `channel_packets::open_vme_adc` meets its contract. Assumes nothing.
 use native.Mathlib.Omega.{arith}
-use mathlib.Core.Path.{_∙_}
 use Rattle.s800_layout.specs.Event.{vmeAdc}
 use Rattle.s800.proofs.Opening.{inside, outside, wrong-length}
 use Rattle.s800.proofs.ChannelPackets.{adc-id, adc-opens}

@@ -1,11 +1,11 @@
 -- `content::read_pairs` meets its contract. Assumes nothing.
 use Prim.Native.Nat.{_-_, _%_}
-use mathlib.Core.Path.{_≡_, sym, ap, _∙_}
+use mathlib.Core.Path.{_≡_, sym, _∙_}
 use native.Mathlib.Omega.{arith}
 use borrow.Author.Needs.{needs}
 use Rattle.event.proofs.ChannelLaws.{blocked-none}
 use Rattle.event.proofs.Turns.{begin, finish}
-use Rattle.s800.specs.Channel.{faultOf, pairFormat}
+use Rattle.s800.specs.Channel.{pairFormat}
 use Rattle.s800.proofs.Runs.{Pairs, pair-stop, pair-stop-2, pair-step}
 use Rattle.s800.proofs.content.read_pairs.Statement.{statement}
 use Rattle.s800.proofs.content.read_pairs.Tie as tie

@@ -1,6 +1,5 @@
 -- `parts::within` meets its contract. Assumes nothing.
 use borrow.Author.Tests.{le-leb, lt-leb}
-use borrow.Author.Needs.{needs}
 use Rattle.s800.proofs.parts.within.Statement.{statement}
 use Rattle.s800.proofs.parts.within.Tie as tie
 

@@ -1,6 +1,5 @@
 -- `run_packets::open_crdc` meets its contract. Assumes nothing.
-use native.Mathlib.Omega.{arith}
-use mathlib.Core.Path.{refl, sym, _∙_}
+use mathlib.Core.Path.{refl, _∙_}
 use Rattle.s800_layout.specs.Event.{crdc}
 use Rattle.s800.proofs.Opening.{wrong-length}
 use Rattle.s800.proofs.RunPackets.{odd-crdc, short-crdc, crdc-id, crdc-length, crdc-tag}

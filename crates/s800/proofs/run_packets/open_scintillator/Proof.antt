@@ -1,5 +1,4 @@
 -- `run_packets::open_scintillator` meets its contract. Assumes nothing.
-use native.Mathlib.Omega.{arith}
 use Rattle.s800_layout.specs.Event.{scintillator}
 use Rattle.s800.proofs.Opening.{wrong-length}
 use Rattle.s800.proofs.RunPackets.{odd-scintillator, long-scintillator, scintillator-opens}

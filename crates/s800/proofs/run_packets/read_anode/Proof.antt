@@ -1,5 +1,4 @@
 -- `run_packets::read_anode` meets its contract. Assumes nothing.
-use native.Mathlib.Omega.{arith}
 use Rattle.s800.proofs.RunPackets.{anode-length, anode-tag, anode-read}
 use borrow.Author.Needs.{needs}
 use Rattle.s800.proofs.run_packets.read_anode.Statement.{statement}

@@ -1,6 +1,5 @@
 -- `run_packets::read_crdc` meets its contract. Assumes nothing.
 use native.Mathlib.Omega.{arith}
-use mathlib.Core.Path.{_∙_}
 use Rattle.s800.proofs.RunPackets.{crdc-refused, crdc-whole}
 use borrow.Author.Needs.{needs}
 use Rattle.s800.proofs.run_packets.read_crdc.Statement.{statement}

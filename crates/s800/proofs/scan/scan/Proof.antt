@@ -1,7 +1,7 @@
 -- `scan::scan` meets its contract. Assumes nothing.
 use Prim.Native.Nat.{_-_, _^_, _≤_, _<_}
 use native.Mathlib.Omega.{arith}
-use mathlib.Core.Path.{_≡_, refl, sym, _∙_}
+use mathlib.Core.Path.{_≡_, sym, _∙_}
 use lib.ListN.{length}
 use Rattle.event.proofs.ChannelLaws.{blocked-none}
 use Rattle.event.proofs.Turns.{begin, finish}
