@@ -3,24 +3,49 @@
 use Prim.Native.Nat.{ℕ, suc, _+_, _-_, _≤_, _<_}
 use native.Mathlib.Omega.{arith}
 use mathlib.Core.Path.{_≡_, refl, _∙_}
-use mathlib.Core.Bool.{Bool, true, false, cond}
-use mathlib.Core.List.{List}
+use mathlib.Core.Bool.{Bool, true, false, cond, _||_}
+use mathlib.Core.List.{List, [], _∷_, map}
 use lib.Dec.{T, eqb}
 use lib.ListN.{length, getD, drop}
 use lib.Seq.{slice, length-slice}
-use borrow.Author.Tests.{eq-eqb}
-use Rattle.event.specs.Parser.{Result, ok, refuse, then, give, ended, filled}
+use borrow.Author.Tests.{eq-eqb, eqb-true}
+use Rattle.event.specs.Parser.{Result, ok, refuse, then, give, ended, filled, member}
 use Rattle.event.proofs.Leads.{leads-trans}
 use Rattle.event.proofs.Loops.{leads-filled}
-use Rattle.s800_layout.specs.Event.{Form, Content, Packet, tag, formOf}
+use Rattle.s800_layout.specs.Event.{Opaque, focalPlaneTime, intermediateCrdc, targetPin, intermediateTrack, intermediatePpac, objectScintillator, Form, opaque, Content, Packet, tag, formOf}
 use Rattle.s800_layout.specs.Layout.{packetRows}
 use Rattle.s800_layout.specs.Reading.{allowedLength, content, packetContent, formWord, packet}
 use Rattle.s800_layout.proofs.Lengths.{form-back}
 use Rattle.s800_layout.proofs.Refusals.{content-ends}
 use Rattle.s800.specs.declared.Opened.{Opened}
 use Rattle.s800.specs.declared.Opened.the-variants.{Channels, Refused}
-use Rattle.s800.specs.Opening.{restOf, OpensAs, OpensPacket}
+use Rattle.s800.specs.Opening.{opaques, opaqueTag, restOf, OpensAs, OpensPacket}
 use Rattle.s800.proofs.Extent.{too-short, too-long, body}
+
+clash : false ≡ true → ⊥
+clash e = let z : _≡_ {A = ℕ} 0 1 = cc in omega arith
+
+-- one of the numbers that f gives
+which : {A : Type 0} (f : A → ℕ) (t : ℕ) (xs : List A) → true ≡ member t (map f xs) → (a : A) × (t ≡ f a)
+which f t [] e = let z : _≡_ {A = ℕ} 0 1 = cc in absurd (omega arith)
+which {A} f t (x ∷ xs) e = go (which f t xs) (eqb t (f x)) refl e
+  where
+    go : (true ≡ member t (map f xs) → (a : A) × (t ≡ f a)) → (b : Bool) → eqb t (f x) ≡ b → true ≡ b || member t (map f xs) → (a : A) × (t ≡ f a)
+    go ih true p q = (x, eqb-true t (f x) p)
+    go ih false p q = ih q
+
+pub opaque-form : (t : ℕ) → true ≡ opaqueTag t → (k : Opaque) × (t ≡ tag (opaque k))
+unfolding opaqueTag
+opaque-form t e = which (λ k. tag (opaque k)) t opaques e
+
+pub no-opaque : (t : ℕ) → false ≡ opaqueTag t → (k : Opaque) → t ≡ tag (opaque k) → ⊥
+unfolding opaqueTag
+no-opaque t e focalPlaneTime q = clash (rw q at e)
+no-opaque t e intermediateCrdc q = clash (rw q at e)
+no-opaque t e targetPin q = clash (rw q at e)
+no-opaque t e intermediateTrack q = clash (rw q at e)
+no-opaque t e intermediatePpac q = clash (rw q at e)
+no-opaque t e objectScintillator q = clash (rw q at e)
 
 -- what a packet holds fills it
 rest-ends : (f : Form) (ws : List ℕ) (start n : ℕ) → start + n ≤ length ws → 2 ≤ n → (q : Packet) (j : ℕ) (r : List ℕ) → restOf f ws start n ≡ ok q j r → T (ended r)

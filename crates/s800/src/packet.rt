@@ -13,9 +13,25 @@ use crate::run_packets::open_scintillator;
 use crate::word::word;
 use event::refusal;
 ghost use Prim.Native.Nat.{_≤_, _<_};
+ghost use mathlib.Core.Path.{_≡_};
 ghost use lib.ListN.{length as lengthOf};
 ghost use denote.Ref.{now};
-ghost use Rattle.s800.specs.Opening.{OpensPacket};
+ghost use Rattle.s800.specs.Opening.{opaqueTag, OpensPacket};
+
+// The tags of packets with opaque words.
+fn is_opaque(tag: u32) -> bool
+    ensures { λ r. ⌜ r ≡ opaqueTag tag ⌝ }
+{
+    match tag {
+        0x5830 => true,
+        0x5850 => true,
+        0x5860 => true,
+        0x5870 => true,
+        0x5880 => true,
+        0x5890 => true,
+        _ => false,
+    }
+}
 
 // Refusals 5 and 6; then the packet's own function goes on with 7.
 pub(crate) fn open_packet(words: &[u16], start: usize, rows: &mut [u32], count: usize) -> Opened
@@ -30,6 +46,9 @@ pub(crate) fn open_packet(words: &[u16], start: usize, rows: &mut [u32], count: 
         return refused(refusal::EXTENT, start);
     }
     let tag = word(words, start + 1);
+    if is_opaque(tag) {
+        return open_opaque(words, start, length, tag, rows, count);
+    }
     match tag {
         0x5801 => open_trigger(words, start, length, rows, count),
         0x5802 => open_time_of_flight(words, start, length, rows, count),
@@ -39,12 +58,6 @@ pub(crate) fn open_packet(words: &[u16], start: usize, rows: &mut [u32], count: 
         0x58b0 => open_hodoscope(words, start, length, rows, count),
         0x58a0 => open_object_pin(words, start, length, rows, count),
         0x58c0 => open_vme_adc(words, start, length, rows, count),
-        0x5830 => open_opaque(words, start, length, tag, rows, count),
-        0x5850 => open_opaque(words, start, length, tag, rows, count),
-        0x5860 => open_opaque(words, start, length, tag, rows, count),
-        0x5870 => open_opaque(words, start, length, tag, rows, count),
-        0x5880 => open_opaque(words, start, length, tag, rows, count),
-        0x5890 => open_opaque(words, start, length, tag, rows, count),
         _ => refused(refusal::TAG, start + 1),
     }
 }
