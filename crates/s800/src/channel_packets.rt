@@ -21,14 +21,14 @@ ghost use Rattle.s800.specs.Opening.{Standing, HodoscopeHits, OpensAs};
 pub(crate) fn open_trigger(
     words: &[u16],
     start: usize,
-    length: usize,
+    size: usize,
     rows: &mut [u32],
     count: usize,
 ) -> Opened
-    requires { ⌜ Standing (now words) start length count ⌝ }
-    ensures { λ r. ⌜ OpensAs trigger (now (words .entry)) start length count (now (rows .entry)) (now (rows .exit)) r ⌝ }
+    requires { ⌜ Standing (now words) start size count ⌝ }
+    ensures { λ r. ⌜ OpensAs trigger (now (words .entry)) start size count (now (rows .entry)) (now (rows .exit)) r ⌝ }
 {
-    if !within(length, 3, 7) {
+    if !within(size, 3, 7) {
         return refused(refusal::LENGTH, start);
     }
     let pattern = word(words, start + 2);
@@ -40,7 +40,7 @@ pub(crate) fn open_trigger(
     Opened::Channels {
         format: times(0xf0ff),
         at: start + 3,
-        end: start + length,
+        end: start + size,
         count: count + 2,
     }
 }
@@ -49,21 +49,21 @@ pub(crate) fn open_trigger(
 pub(crate) fn open_time_of_flight(
     words: &[u16],
     start: usize,
-    length: usize,
+    size: usize,
     rows: &mut [u32],
     count: usize,
 ) -> Opened
-    requires { ⌜ Standing (now words) start length count ⌝ }
-    ensures { λ r. ⌜ OpensAs timeOfFlight (now (words .entry)) start length count (now (rows .entry)) (now (rows .exit)) r ⌝ }
+    requires { ⌜ Standing (now words) start size count ⌝ }
+    ensures { λ r. ⌜ OpensAs timeOfFlight (now (words .entry)) start size count (now (rows .entry)) (now (rows .exit)) r ⌝ }
 {
-    if !within(length, 2, 10) {
+    if !within(size, 2, 10) {
         return refused(refusal::LENGTH, start);
     }
     store_packet(rows, count, 0x5802, 0);
     Opened::Channels {
         format: times(0x0f0f),
         at: start + 2,
-        end: start + length,
+        end: start + size,
         count: count + 1,
     }
 }
@@ -72,17 +72,17 @@ pub(crate) fn open_time_of_flight(
 pub(crate) fn open_ion_chamber(
     words: &[u16],
     start: usize,
-    length: usize,
+    size: usize,
     rows: &mut [u32],
     count: usize,
 ) -> Opened
-    requires { ⌜ Standing (now words) start length count ⌝ }
-    ensures { λ r. ⌜ OpensAs ionChamber (now (words .entry)) start length count (now (rows .entry)) (now (rows .exit)) r ⌝ }
+    requires { ⌜ Standing (now words) start size count ⌝ }
+    ensures { λ r. ⌜ OpensAs ionChamber (now (words .entry)) start size count (now (rows .entry)) (now (rows .exit)) r ⌝ }
 {
-    if !within(length, 4, 20) {
+    if !within(size, 4, 20) {
         return refused(refusal::LENGTH, start);
     }
-    if word(words, start + 2) as usize != length - 2 {
+    if word(words, start + 2) as usize != size - 2 {
         return refused(refusal::INNER, start + 2);
     }
     if word(words, start + 3) != 0x5821 {
@@ -92,7 +92,7 @@ pub(crate) fn open_ion_chamber(
     Opened::Channels {
         format: energies(0),
         at: start + 4,
-        end: start + length,
+        end: start + size,
         count: count + 1,
     }
 }
@@ -101,21 +101,21 @@ pub(crate) fn open_ion_chamber(
 pub(crate) fn open_object_pin(
     words: &[u16],
     start: usize,
-    length: usize,
+    size: usize,
     rows: &mut [u32],
     count: usize,
 ) -> Opened
-    requires { ⌜ Standing (now words) start length count ⌝ }
-    ensures { λ r. ⌜ OpensAs objectPin (now (words .entry)) start length count (now (rows .entry)) (now (rows .exit)) r ⌝ }
+    requires { ⌜ Standing (now words) start size count ⌝ }
+    ensures { λ r. ⌜ OpensAs objectPin (now (words .entry)) start size count (now (rows .entry)) (now (rows .exit)) r ⌝ }
 {
-    if length != 3 {
+    if size != 3 {
         return refused(refusal::LENGTH, start);
     }
     store_packet(rows, count, 0x58a0, 0);
     Opened::Channels {
         format: energies(0),
         at: start + 2,
-        end: start + length,
+        end: start + size,
         count: count + 1,
     }
 }
@@ -124,14 +124,14 @@ pub(crate) fn open_object_pin(
 pub(crate) fn open_hodoscope(
     words: &[u16],
     start: usize,
-    length: usize,
+    size: usize,
     rows: &mut [u32],
     count: usize,
 ) -> Opened
-    requires { ⌜ Standing (now words) start length count ⌝ }
-    ensures { λ r. ⌜ OpensAs hodoscope (now (words .entry)) start length count (now (rows .entry)) (now (rows .exit)) r ⌝ }
+    requires { ⌜ Standing (now words) start size count ⌝ }
+    ensures { λ r. ⌜ OpensAs hodoscope (now (words .entry)) start size count (now (rows .entry)) (now (rows .exit)) r ⌝ }
 {
-    if !within(length, 3, 19) {
+    if !within(size, 3, 19) {
         return refused(refusal::LENGTH, start);
     }
     let id = word(words, start + 2);
@@ -139,23 +139,23 @@ pub(crate) fn open_hodoscope(
         return refused(refusal::ID, start + 2);
     }
     if id == 2 {
-        return open_hits(words, start, length, rows, count);
+        return open_hits(words, start, size, rows, count);
     }
     store_packet(rows, count, 0x58b0, id);
     Opened::Channels {
         format: energies(16 * id),
         at: start + 3,
-        end: start + length,
+        end: start + size,
         count: count + 1,
     }
 }
 
 // 0x58b0 with id 2, 6 words: hit registers A and B, and the time.
-fn open_hits(words: &[u16], start: usize, length: usize, rows: &mut [u32], count: usize) -> Opened
-    requires { ⌜ Standing (now words) start length count × HodoscopeHits (now words) start length ⌝ }
-    ensures { λ r. ⌜ OpensAs hodoscope (now (words .entry)) start length count (now (rows .entry)) (now (rows .exit)) r ⌝ }
+fn open_hits(words: &[u16], start: usize, size: usize, rows: &mut [u32], count: usize) -> Opened
+    requires { ⌜ Standing (now words) start size count × HodoscopeHits (now words) start size ⌝ }
+    ensures { λ r. ⌜ OpensAs hodoscope (now (words .entry)) start size count (now (rows .entry)) (now (rows .exit)) r ⌝ }
 {
-    if length != 6 {
+    if size != 6 {
         return refused(refusal::LENGTH, start);
     }
     store_packet(rows, count, 0x58b0, 2);
@@ -166,21 +166,21 @@ fn open_hits(words: &[u16], start: usize, length: usize, rows: &mut [u32], count
         datum: word(words, start + 5),
     };
     store_row(rows, count + 1, row);
-    complete(start + length, count + 2)
+    complete(start + size, count + 2)
 }
 
 // 0x58c0, 3 to 11 words: id 0 to 3, then energies, the row channel 8 times the id up.
 pub(crate) fn open_vme_adc(
     words: &[u16],
     start: usize,
-    length: usize,
+    size: usize,
     rows: &mut [u32],
     count: usize,
 ) -> Opened
-    requires { ⌜ Standing (now words) start length count ⌝ }
-    ensures { λ r. ⌜ OpensAs vmeAdc (now (words .entry)) start length count (now (rows .entry)) (now (rows .exit)) r ⌝ }
+    requires { ⌜ Standing (now words) start size count ⌝ }
+    ensures { λ r. ⌜ OpensAs vmeAdc (now (words .entry)) start size count (now (rows .entry)) (now (rows .exit)) r ⌝ }
 {
-    if !within(length, 3, 11) {
+    if !within(size, 3, 11) {
         return refused(refusal::LENGTH, start);
     }
     let id = word(words, start + 2);
@@ -191,7 +191,7 @@ pub(crate) fn open_vme_adc(
     Opened::Channels {
         format: adc_energies(8 * id),
         at: start + 3,
-        end: start + length,
+        end: start + size,
         count: count + 1,
     }
 }

@@ -9,7 +9,7 @@ use event::refusal;
 use event::rows::store_row;
 ghost use Prim.Native.Nat.{_+_, _≤_, _<_};
 ghost use mathlib.Core.Path.{_≡_};
-ghost use lib.ListN.{length as lengthOf};
+ghost use lib.ListN.{length};
 ghost use denote.Ref.{now};
 ghost use Rattle.event.specs.Scanning.{storeRows};
 ghost use Rattle.s800_layout.specs.Layout.{stampRow};
@@ -45,9 +45,9 @@ fn refused(number: u32, place: usize) -> Answer
 }
 
 // The refusal that a packet with one tag and one length meets at `start`, 0 for none.
-fn head_fault(words: &[u16], start: usize, tag: u32, length: usize) -> u32
-    requires { ⌜ start + 1 < lengthOf (now words) ⌝ }
-    ensures { λ r. ⌜ r ≡ headFault (now (words .entry)) start tag length ⌝ }
+fn head_fault(words: &[u16], start: usize, tag: u32, size: usize) -> u32
+    requires { ⌜ start + 1 < length (now words) ⌝ }
+    ensures { λ r. ⌜ r ≡ headFault (now (words .entry)) start tag size ⌝ }
 {
     let n = word(words, start) as usize;
     if n < 2 {
@@ -59,7 +59,7 @@ fn head_fault(words: &[u16], start: usize, tag: u32, length: usize) -> u32
     if word(words, start + 1) != tag {
         return refusal::TAG;
     }
-    if n != length {
+    if n != size {
         return refusal::LENGTH;
     }
     0
@@ -98,7 +98,7 @@ fn stamp_row(order: StampOrder, a: u32, b: u32, c: u32, d: u32) -> Row
 }
 
 fn store_stamp(words: &[u16], order: StampOrder, rows: &mut [u32])
-    requires { ⌜ 14 ≤ lengthOf (now words) ⌝ }
+    requires { ⌜ 14 ≤ length (now words) ⌝ }
     ensures { λ _. ⌜ now (rows .exit) ≡ storeRows (now (rows .entry)) 0 (stampRows order (now (words .entry))) ⌝ }
 {
     store_packet(rows, 0, 0x5803, 0);
@@ -113,7 +113,7 @@ fn store_stamp(words: &[u16], order: StampOrder, rows: &mut [u32])
 }
 
 fn store_number(words: &[u16], rows: &mut [u32])
-    requires { ⌜ 14 ≤ lengthOf (now words) ⌝ }
+    requires { ⌜ 14 ≤ length (now words) ⌝ }
     ensures { λ _. ⌜ now (rows .exit) ≡ storeRows (now (rows .entry)) 2 (numberRows (now (words .entry))) ⌝ }
 {
     store_packet(rows, 2, 0x5804, 0);

@@ -14,7 +14,7 @@ use crate::word::word;
 use event::refusal;
 ghost use Prim.Native.Nat.{_≤_, _<_};
 ghost use mathlib.Core.Path.{_≡_};
-ghost use lib.ListN.{length as lengthOf};
+ghost use lib.ListN.{length};
 ghost use denote.Ref.{now};
 ghost use Rattle.s800.specs.Opening.{opaqueTag, OpensPacket};
 
@@ -35,29 +35,29 @@ fn is_opaque(tag: u32) -> bool
 
 // Refusals 5 and 6; then the packet's own function goes on with 7.
 pub(crate) fn open_packet(words: &[u16], start: usize, rows: &mut [u32], count: usize) -> Opened
-    requires { ⌜ (start < lengthOf (now words)) × (count ≤ start) ⌝ }
+    requires { ⌜ (start < length (now words)) × (count ≤ start) ⌝ }
     ensures { λ r. ⌜ OpensPacket (now (words .entry)) start count (now (rows .entry)) (now (rows .exit)) r ⌝ }
 {
-    let length = word(words, start) as usize;
-    if length < 2 {
+    let size = word(words, start) as usize;
+    if size < 2 {
         return refused(refusal::EXTENT, start);
     }
-    if words.len() - start < length {
+    if words.len() - start < size {
         return refused(refusal::EXTENT, start);
     }
     let tag = word(words, start + 1);
     if is_opaque(tag) {
-        return open_opaque(words, start, length, tag, rows, count);
+        return open_opaque(words, start, size, tag, rows, count);
     }
     match tag {
-        0x5801 => open_trigger(words, start, length, rows, count),
-        0x5802 => open_time_of_flight(words, start, length, rows, count),
-        0x5810 => open_scintillator(words, start, length, rows, count),
-        0x5820 => open_ion_chamber(words, start, length, rows, count),
-        0x5840 => open_crdc(words, start, length, rows, count),
-        0x58b0 => open_hodoscope(words, start, length, rows, count),
-        0x58a0 => open_object_pin(words, start, length, rows, count),
-        0x58c0 => open_vme_adc(words, start, length, rows, count),
+        0x5801 => open_trigger(words, start, size, rows, count),
+        0x5802 => open_time_of_flight(words, start, size, rows, count),
+        0x5810 => open_scintillator(words, start, size, rows, count),
+        0x5820 => open_ion_chamber(words, start, size, rows, count),
+        0x5840 => open_crdc(words, start, size, rows, count),
+        0x58b0 => open_hodoscope(words, start, size, rows, count),
+        0x58a0 => open_object_pin(words, start, size, rows, count),
+        0x58c0 => open_vme_adc(words, start, size, rows, count),
         _ => refused(refusal::TAG, start + 1),
     }
 }

@@ -12,10 +12,10 @@ ghost use Rattle.s800_layout.specs.Reading.{between};
 ghost use Rattle.s800.specs.Channel.{timesFormat, energiesFormat, adcFormat};
 ghost use Rattle.s800.specs.Opening.{openedOf};
 
-pub(crate) fn within(length: usize, least: usize, most: usize) -> bool
-    ensures { λ r. ⌜ r ≡ between least most length ⌝ }
+pub(crate) fn within(size: usize, least: usize, most: usize) -> bool
+    ensures { λ r. ⌜ r ≡ between least most size ⌝ }
 {
-    least <= length && length <= most
+    least <= size && size <= most
 }
 
 pub(crate) fn refused(number: u32, place: usize) -> Opened

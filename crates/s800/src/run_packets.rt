@@ -17,7 +17,7 @@ use event::rows::store_row;
 ghost use Prim.Native.Nat.{ℕ, _+_, _≤_};
 ghost use mathlib.Core.Path.{_≡_};
 ghost use mathlib.Core.List.{List};
-ghost use lib.ListN.{length as lengthOf};
+ghost use lib.ListN.{length};
 ghost use lib.Seq.{slice};
 ghost use denote.Ref.{now};
 ghost use Rattle.event.specs.Scanning.{storeRows, Scanned};
@@ -30,21 +30,21 @@ ghost use Rattle.s800.specs.Opening.{Standing, CrdcHead, crdcHeadRows, O
 pub(crate) fn open_scintillator(
     words: &[u16],
     start: usize,
-    length: usize,
+    size: usize,
     rows: &mut [u32],
     count: usize,
 ) -> Opened
-    requires { ⌜ Standing (now words) start length count ⌝ }
-    ensures { λ r. ⌜ OpensAs scintillator (now (words .entry)) start length count (now (rows .entry)) (now (rows .exit)) r ⌝ }
+    requires { ⌜ Standing (now words) start size count ⌝ }
+    ensures { λ r. ⌜ OpensAs scintillator (now (words .entry)) start size count (now (rows .entry)) (now (rows .exit)) r ⌝ }
 {
-    if length % 2 == 1 {
+    if size % 2 == 1 {
         return refused(refusal::LENGTH, start);
     }
-    if 14 < length {
+    if 14 < size {
         return refused(refusal::LENGTH, start);
     }
     store_packet(rows, count, 0x5810, 0);
-    let end = start + length;
+    let end = start + size;
     opened(read_pairs(words, start + 2, end, rows, count + 1), end)
 }
 
@@ -53,24 +53,24 @@ pub(crate) fn open_scintillator(
 pub(crate) fn open_crdc(
     words: &[u16],
     start: usize,
-    length: usize,
+    size: usize,
     rows: &mut [u32],
     count: usize,
 ) -> Opened
-    requires { ⌜ Standing (now words) start length count ⌝ }
-    ensures { λ r. ⌜ OpensAs crdc (now (words .entry)) start length count (now (rows .entry)) (now (rows .exit)) r ⌝ }
+    requires { ⌜ Standing (now words) start size count ⌝ }
+    ensures { λ r. ⌜ OpensAs crdc (now (words .entry)) start size count (now (rows .entry)) (now (rows .exit)) r ⌝ }
 {
-    if length % 2 == 1 {
+    if size % 2 == 1 {
         return refused(refusal::LENGTH, start);
     }
-    if length < 10 {
+    if size < 10 {
         return refused(refusal::LENGTH, start);
     }
     let id = word(words, start + 2);
     if 1 < id {
         return refused(refusal::ID, start + 2);
     }
-    if word(words, start + 3) as usize != length - 7 {
+    if word(words, start + 3) as usize != size - 7 {
         return refused(refusal::INNER, start + 3);
     }
     if word(words, start + 4) != 0x5841 {
@@ -78,15 +78,15 @@ pub(crate) fn open_crdc(
     }
     store_packet(rows, count, 0x5840, id);
     store_datum(rows, count + 1, kind::THRESHOLD, word(words, start + 5));
-    read_crdc(words, start, length, rows, count + 2)
+    read_crdc(words, start, size, rows, count + 2)
 }
 
 // The samples and the anode of the CRDC packet at `start`, after the rows of its head.
-fn read_crdc(words: &[u16], start: usize, length: usize, rows: &mut [u32], count: usize) -> Opened
-    requires { ⌜ CrdcHead (now words) start length × (start + length ≤ lengthOf (now words)) × (count ≤ start + 2) ⌝ }
-    ensures { λ r. ⌜ ((k : ℕ) (before : List ℕ) → count ≡ k + 2 → now (rows .entry) ≡ storeRows before k (crdcHeadRows (now (words .entry)) start) → OpensAs crdc (now (words .entry)) start length k before (now (rows .exit)) r) ⌝ }
+fn read_crdc(words: &[u16], start: usize, size: usize, rows: &mut [u32], count: usize) -> Opened
+    requires { ⌜ CrdcHead (now words) start size × (start + size ≤ length (now words)) × (count ≤ start + 2) ⌝ }
+    ensures { λ r. ⌜ ((k : ℕ) (before : List ℕ) → count ≡ k + 2 → now (rows .entry) ≡ storeRows before k (crdcHeadRows (now (words .entry)) start) → OpensAs crdc (now (words .entry)) start size k before (now (rows .exit)) r) ⌝ }
 {
-    let end = start + length;
+    let end = start + size;
     let samples = read_samples(words, start + 6, end - 4, rows, count);
     let Answer::Accepted(so_far) = samples else {
         return opened(samples, end);
@@ -96,7 +96,7 @@ fn read_crdc(words: &[u16], start: usize, length: usize, rows: &mut [u32], count
 
 // The inner packet 0x5845 of 4 words at `at`: the anode's energy and time.
 fn read_anode(words: &[u16], at: usize, rows: &mut [u32], count: usize) -> Answer
-    requires { ⌜ (at + 4 ≤ lengthOf (now words)) × (count ≤ at) ⌝ }
+    requires { ⌜ (at + 4 ≤ length (now words)) × (count ≤ at) ⌝ }
     ensures { λ r. ⌜ Scanned anodeRows (inner 4 anodeTag anode at (slice at (at + 4) (now (words .entry)))) count (now (rows .entry)) r (now (rows .exit)) × NoMore (at + 4) r ⌝ }
 {
     if word(words, at) != 4 {
@@ -128,16 +128,16 @@ fn inner_refused(place: usize) -> Answer
 pub(crate) fn open_opaque(
     words: &[u16],
     start: usize,
-    length: usize,
+    size: usize,
     tag: u32,
     rows: &mut [u32],
     count: usize,
 ) -> Opened
-    requires { ⌜ Standing (now words) start length count ⌝ }
-    ensures { λ r. ⌜ ((k : Opaque) → tag ≡ tagOf (opaque k) → OpensAs (opaque k) (now (words .entry)) start length count (now (rows .entry)) (now (rows .exit)) r) ⌝ }
+    requires { ⌜ Standing (now words) start size count ⌝ }
+    ensures { λ r. ⌜ ((k : Opaque) → tag ≡ tagOf (opaque k) → OpensAs (opaque k) (now (words .entry)) start size count (now (rows .entry)) (now (rows .exit)) r) ⌝ }
 {
     store_packet(rows, count, tag, 0);
-    let end = start + length;
+    let end = start + size;
     let total = read_opaque(words, start + 2, end, rows, count + 1);
     complete(end, total)
 }
