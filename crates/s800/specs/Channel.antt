@@ -1,4 +1,4 @@
--- The code's view of a packet's channel words: a `Format` stands for a channel format of the layout.
+-- The code's view of a packet's words: a `Format` stands for a channel format of the layout, and runs of words for their rows. (The contracts of private functions.)
 -- Assumes nothing.
 use Prim.Native.Nat.{ℕ, _/_, _%_, _^_, _≤_}
 use mathlib.Core.Bool.{true, false, cond}
@@ -13,11 +13,30 @@ use Rattle.s800_layout.specs.Layout.{datumRow, sampleRow, anodeRow}
 use Rattle.s800_layout.specs.Reading.{datumOf, sampleHeadOf, sampleDatumOf}
 use Rattle.s800.specs.declared.Format.{Format}
 
+-- Formats.
+
 abbrev pub bitsOf : Format → ℕ
 bitsOf m = cond (m .wide) 13 12
 
 abbrev pub formatOf : Format → ChannelFormat
 formatOf m = record { bits = bitsOf m; allowed = others 0 16 (m .barred) }
+
+-- times of the channels not in a set, and energies; `base` is the row channel of channel 0
+abbrev pub timesFormat : ℕ → Format
+timesFormat barred = record { kind = 5; base = 0; wide = false; barred = barred }
+
+abbrev pub energiesFormat : ℕ → Format
+energiesFormat base = record { kind = 6; base = base; wide = false; barred = 0 }
+
+-- energies of 13 bits
+abbrev pub adcFormat : ℕ → Format
+adcFormat base = record { kind = 6; base = base; wide = true; barred = 0xff00 }
+
+-- the energies of pairs
+abbrev pub pairFormat : Format
+pairFormat = record { kind = 6; base = 0; wide = false; barred = 0xffc0 }
+
+-- Channel words.
 
 abbrev pub channelOf : Format → ℕ → ℕ
 channelOf m w = w / 2 ^ bitsOf m
@@ -32,10 +51,11 @@ faultOf m blocked w = cond (present blocked (channelOf m w)) (cond (present (m .
 abbrev pub channelRow : Format → Datum → Row
 channelRow m d = datumRow (m .kind) (m .base) d
 
+-- Rows of one item of a run.
+
 abbrev pub channelRows : Format → Datum → List Row
 channelRows m d = channelRow m d ∷ []
 
--- the rows of an opaque word, of a sample, of an anode
 abbrev pub opaqueRows : ℕ → List Row
 opaqueRows w = row 11 0 0 w ∷ []
 
@@ -50,21 +70,7 @@ abbrev pub sampleOf : ℕ → ℕ → Sample
 sampleOf head datum = record { head = sampleHeadOf head; datum = sampleDatumOf datum }
 
 abbrev pub pairOf : ℕ → ℕ → Pair
-pairOf energy time = record { energy = datumOf pairEnergy energy; time = time % 2 ^ 12 }
-
-abbrev pub pairFormat : Format
-pairFormat = record { kind = 6; base = 0; wide = false; barred = 0xffc0 }
-
--- times of the channels not in a set, and energies; `base` is the row channel of channel 0
-abbrev pub timesFormat : ℕ → Format
-timesFormat barred = record { kind = 5; base = 0; wide = false; barred = barred }
-
-abbrev pub energiesFormat : ℕ → Format
-energiesFormat base = record { kind = 6; base = base; wide = false; barred = 0 }
-
--- energies of 13 bits
-abbrev pub adcFormat : ℕ → Format
-adcFormat base = record { kind = 6; base = base; wide = true; barred = 0xff00 }
+pairOf energy time = record { energy = datumOf pairEnergy energy; time = time % 2 ^ pairEnergy .bits }
 
 -- no more rows than words up to `end`
 abbrev pub NoMore : ℕ → Answer → Type 0
