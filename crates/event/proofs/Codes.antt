@@ -10,6 +10,7 @@ use lib.ListN.{length, take, drop, length-append, length-take, take-append-drop}
 use lib.Seq.{take-at, drop-at}
 use borrow.Author.Tests.{leb-true, le-leb}
 use Rattle.event.specs.Parser.{Result, ok, refuse, Parser, Test, Passed, ended, _>>=_, here, require, judge, element, filled, within}
+use Rattle.event.proofs.Impossible.{impossible}
 
 -- A success leaves a good value, printed in front of the rest, and the place is as many elements on;
 -- a good value printed is read back, given what may follow (`Rest`).
@@ -26,7 +27,7 @@ T-true false t = absurd t
 
 pub true-T : (b : Bool) → b ≡ true → T b
 true-T true e = tt
-true-T false e = let z : _≡_ {A = ℕ} 0 1 = cc in absurd (omega arith)
+true-T false e = impossible cc
 
 -- `T (stop r)` as what may follow
 abbrev pub At : {E : Type 0} → (List E → Bool) → List E → Type 0
@@ -67,7 +68,7 @@ module _ {E A : Type 0} where
     where
       go : (judge ts a i s ≡ ok b j r → Passed ts × (a ≡ b) × (s ≡ r) × (j ≡ suc i)) → (x : Bool) → t .holds ≡ x → cond x (judge ts a i s) (refuse (t .number) i) ≡ ok b j r → (T (t .holds) × Passed ts) × (a ≡ b) × (s ≡ r) × (j ≡ suc i)
       go ih₁ true h k = let ih = ih₁ k in ((true-T (t .holds) h, ih .0), ih .1, ih .2, ih .3)
-      go ih₁ false h k = let z : _≡_ {A = ℕ} 0 1 = cc in absurd (omega arith)
+      go ih₁ false h k = impossible cc
 
   judge-complete : (ts : List Test) (a : A) (i : ℕ) (r : List E) → Passed ts → judge ts a i r ≡ ok a (suc i) r
   judge-complete [] a i r p = refl
@@ -81,7 +82,7 @@ module _ {E A : Type 0} where
   codes-element e fields tests print Good to from = record { sound = snd; complete = cmp }
     where
       snd : (i : ℕ) (s : List E) (a : A) (j : ℕ) (r : List E) → element e fields tests i s ≡ ok a j r → Good a × (s ≡ print a ∷ r) × (j ≡ i + 1)
-      snd i [] a j r k = let z : _≡_ {A = ℕ} 0 1 = cc in absurd (omega arith)
+      snd i [] a j r k = impossible cc
       snd i (x ∷ s) a j r k =
           let h = judge-sound (tests x) (fields x) i s a j r k in
           let g = to x (h .0) in
@@ -97,8 +98,8 @@ module _ {E A : Type 0} where
 
   filled-ok : (rest : List E) (x : Result E A) (a : A) (j : ℕ) (r : List E) → filled rest x ≡ ok a j r → (x ≡ ok a j []) × (rest ≡ r)
   filled-ok rest (ok b k []) a j r e = (cc, cc)
-  filled-ok rest (ok b k (y ∷ t)) a j r e = let z : _≡_ {A = ℕ} 0 1 = cc in absurd (omega arith)
-  filled-ok rest (refuse n k) a j r e = let z : _≡_ {A = ℕ} 0 1 = cc in absurd (omega arith)
+  filled-ok rest (ok b k (y ∷ t)) a j r e = impossible cc
+  filled-ok rest (refuse n k) a j r e = impossible cc
 
   pub codes-within : {p : Parser E A} {print : A → List E} {Good : A → Type 0} (n k m : ℕ) → Codes (At ended) p print Good
       → Codes any (within n k m p) print (λ a. Good a × (length (print a) ≡ m))
@@ -108,7 +109,7 @@ module _ {E A : Type 0} where
       snd i s a j r = go (leb m (length s)) refl
         where
           go : (x : Bool) → leb m (length s) ≡ x → cond x (filled (drop m s) (p i (take m s))) (refuse n k) ≡ ok a j r → (Good a × (length (print a) ≡ m)) × (s ≡ print a ++ r) × (j ≡ i + length (print a))
-          go false l e = let z : _≡_ {A = ℕ} 0 1 = cc in absurd (omega arith)
+          go false l e = impossible cc
           go true l e =
               let f = filled-ok (drop m s) (p i (take m s)) a j r e in
               let h = c .sound i (take m s) a j [] (f .0) in
@@ -127,4 +128,4 @@ module _ {E A : Type 0} where
 
 pub codes-require : {E : Type 0} (b : Bool) (n k : ℕ) → Codes {E = E} any (require b n k) (λ u. []) (λ u. T b)
 codes-require true n k = record { sound = λ i s a j r e. let p : i ≡ j = cc in (tt, cc, omega arith); complete = λ a g i r rr. (i, refl) }
-codes-require false n k = record { sound = λ i s a j r e. let z : _≡_ {A = ℕ} 0 1 = cc in absurd (omega arith); complete = λ a g. absurd g }
+codes-require false n k = record { sound = λ i s a j r e. impossible cc; complete = λ a g. absurd g }

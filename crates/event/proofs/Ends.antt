@@ -10,6 +10,7 @@ use lib.ListN.{length, drop, length-append, length-drop}
 use lib.Seq.{drop-at, drop-drop}
 use Rattle.event.specs.Parser.{Result, ok, refuse, Parser, then, _>>=_, give, upTo, many}
 use Rattle.event.proofs.Codes.{Codes, true-T}
+use Rattle.event.proofs.Impossible.{impossible}
 
 -- the place given is where the rest of the input stands: what a loop over a slice by an index needs
 pub placed : {E A : Type 0} {Rest : List E → Type 0} {p : Parser E A} {print : A → List E} {Good : A → Type 0} → Codes Rest p print Good
@@ -32,14 +33,14 @@ module _ {E : Type 0} (stop : List E → Bool) where
     where
       go : (x : Result E A) → then q x ≡ ok b j r → T (stop r)
       go (ok a k t) e = h a k t b j r e
-      go (refuse n k) e = let z : _≡_ {A = ℕ} 0 1 = cc in absurd (omega arith)
+      go (refuse n k) e = impossible cc
 
   pub ends-map : {A B : Type 0} (p : Parser E A) (f : A → B) → Ends stop p → Ends stop (p >>= λ a. give (f a))
   ends-map {A} p f h i s b j r = go (p i s) refl
     where
       go : (x : Result E A) → p i s ≡ x → then (λ a. give (f a)) x ≡ ok b j r → T (stop r)
       go (ok a k t) e g = let u : t ≡ r = cc in subst (λ (l : List E). T (stop l)) u (h i s a k t e)
-      go (refuse n k) e g = let z : _≡_ {A = ℕ} 0 1 = cc in absurd (omega arith)
+      go (refuse n k) e g = impossible cc
 
   module _ {St A : Type 0} (item : St → Parser E A) (next : St → A → St) where
     -- at the stop, or after what `more` says
@@ -49,7 +50,7 @@ module _ {E : Type 0} (stop : List E → Bool) where
     at-stop i s y ys j r more false h e = more e
 
     ends-upTo : (f : ℕ) (st : St) → Ends stop (upTo item next stop f st)
-    ends-upTo zero st i s ys j r e = at-stop i s (refuse 0 i) ys j r (λ k. let z : _≡_ {A = ℕ} 0 1 = cc in absurd (omega arith)) (stop s) refl e
+    ends-upTo zero st i s ys j r e = at-stop i s (refuse 0 i) ys j r (λ k. impossible cc) (stop s) refl e
     ends-upTo (suc f) st i s ys j r e = at-stop i s _ ys j r
         (ends-bind (item st) (λ a. upTo item next stop f (next st a) >>= λ xs. give (a ∷ xs)) (λ a. ends-map (upTo item next stop f (next st a)) (a ∷_) (ends-upTo f (next st a))) i s ys j r)
         (stop s) refl e

@@ -10,6 +10,7 @@ use Rattle.event.specs.declared.Row.{Row}
 use Rattle.event.specs.Parser.{Result, ok, refuse, then, give}
 use Rattle.event.specs.Rows.{storeRow}
 use Rattle.event.specs.Scanning.{storeRows, Scanned, Leads}
+use Rattle.event.proofs.Impossible.{impossible}
 
 pub leads-refl : {E A : Type 0} {f : A → List Row} {x : Result E A} {k : ℕ} {b : List ℕ} → Leads f x k b f x k b
 leads-refl = record { leads = λ r l s. s }
@@ -57,7 +58,7 @@ scanned-none f k b e n = rw e (record {
 
 -- a scan that refused says what was refused
 pub refused-scan : {E A : Type 0} (f : A → List Row) (x : Result E A) {k n p : ℕ} {b after : List ℕ} → Scanned f x k b (Refused n p) after → x ≡ refuse n p
-refused-scan f (ok a j r) s = let e = s .answered in let z : _≡_ {A = ℕ} 0 1 = cc in absurd (omega arith)
+refused-scan f (ok a j r) s = let e = s .answered in impossible cc
 refused-scan f (refuse m q) s = let e = s .answered in cc
 
 -- what was scanned whole leads on from a success without rows

@@ -1,3 +1,4 @@
+pub mod Impossible
 pub mod Codes
 pub mod Sequences
 pub mod Many

@@ -9,6 +9,7 @@ use lib.Dec.{T}
 use lib.ListN.{length, length-append}
 use Rattle.event.specs.Parser.{Result, ok, refuse, Parser, then, _>>=_, give, upTo, many, prints, Goods}
 use Rattle.event.proofs.Codes.{Codes, any, At, T-true}
+use Rattle.event.proofs.Impossible.{impossible}
 
 -- a success of `one more item`, taken apart
 record Cons {E A : Type 0} (x : Result E A) (more : A → Parser E (List A)) (ys : List A) (j : ℕ) (r : List E) : Type 0 where
@@ -22,11 +23,11 @@ record Cons {E A : Type 0} (x : Result E A) (more : A → Parser E (List A)) (ys
 
 cons-inv : {E A : Type 0} (x : Result E A) (more : A → Parser E (List A)) (ys : List A) (j : ℕ) (r : List E)
     → then (λ a. more a >>= λ xs. give (a ∷ xs)) x ≡ ok ys j r → Cons x more ys j r
-cons-inv (refuse n k) more ys j r e = let z : _≡_ {A = ℕ} 0 1 = cc in absurd (omega arith)
+cons-inv (refuse n k) more ys j r e = impossible cc
 cons-inv {E} {A} (ok a k t) more ys j r e = go (more a k t) refl e
   where
     go : (y : Result E (List A)) → more a k t ≡ y → then (λ xs. give (a ∷ xs)) y ≡ ok ys j r → Cons (ok a k t) more ys j r
-    go (refuse n m) h f = let z : _≡_ {A = ℕ} 0 1 = cc in absurd (omega arith)
+    go (refuse n m) h f = impossible cc
     go (ok xs m u) h f = record { head = a; at = k; input = t; tail = xs; first = refl; others = cc; made = cc }
 
 -- Items: `Rest` may follow an item, and does where another item comes.
@@ -70,7 +71,7 @@ module _ {E St A : Type 0} {Rest : List E → Type 0} {item : St → Parser E A}
         go : (x : Bool) → stop s ≡ x → cond x (ok [] i s) (refuse 0 i) ≡ ok ys j r
             → Goods Good next st ys × (s ≡ prints print next st ys ++ r) × (j ≡ i + length (prints print next st ys))
         go true h k = stopped st i s ys j r h k
-        go false h k = let z : _≡_ {A = ℕ} 0 1 = cc in absurd (omega arith)
+        go false h k = impossible cc
     upTo-sound (suc f) st i s ys j r e = go (λ h. upTo-sound f (next st h.head) h.at h.input h.tail j r h.others) (stop s) refl e
       where
         go : ((h : Cons (item st i s) (λ a. upTo item next stop f (next st a)) ys j r) → Goods Good next (next st h.head) h.tail × (h.input ≡ prints print next (next st h.head) h.tail ++ r) × (j ≡ h.at + length (prints print next (next st h.head) h.tail)))
@@ -94,7 +95,7 @@ module _ {E St A : Type 0} {Rest : List E → Type 0} {item : St → Parser E A}
           rw e (cons-complete st x xs (λ a. upTo item next stop f (next st a)) (g .0) (g .1) i r (last r t) (λ k. upTo-complete f (next st x) xs (g .1) (omega arith) k r t))
 
       printed : (st : St) (a : A) → Good st a → (l : List E) → print st a ≡ l → 1 ≤ length l
-      printed st a g [] e = let z : true ≡ false = sym halt ∙ rw e at (go-on st a g []) in let y : _≡_ {A = ℕ} 0 1 = cc in absurd (omega arith)
+      printed st a g [] e = let z : true ≡ false = sym halt ∙ rw e at (go-on st a g []) in impossible cc
       printed st a g (x ∷ l) e = omega arith
 
       pub long : (st : St) (xs : List A) → Goods Good next st xs → length xs ≤ length (prints print next st xs)
@@ -131,7 +132,7 @@ module _ {E St A : Type 0} {Rest : List E → Type 0} {item : St → Parser E A}
 
       pub many-step : (st : St) (i : ℕ) (s : List E) → stop s ≡ false
           → many item next stop st i s ≡ (item st >>= λ a. many item next stop (next st a) >>= λ xs. give (a ∷ xs)) i s
-      many-step st i [] e = let z : true ≡ false = sym halt ∙ e in let y : _≡_ {A = ℕ} 0 1 = cc in absurd (omega arith)
+      many-step st i [] e = let z : true ≡ false = sym halt ∙ e in impossible cc
       many-step st i (x ∷ s) e = rw e (go (item st i (x ∷ s)) refl)
         where
           go : (y : Result E A) → item st i (x ∷ s) ≡ y → then (λ a. upTo item next stop (length s) (next st a) >>= λ xs. give (a ∷ xs)) y

@@ -10,6 +10,7 @@ use lib.ListN.{length, take, drop, length-take, length-drop}
 use borrow.Author.Tests.{leb-true}
 use Rattle.event.specs.Parser.{Result, ok, refuse, Parser, Test, ended, then, _>>=_, give, here, require, judge, element, filled, within, upTo, many, All}
 use Rattle.event.specs.Outcome.{done, refused, outcome}
+use Rattle.event.proofs.Impossible.{impossible}
 
 -- A refusal has a number of the table and a place before `end`; a success leaves elements up to place `limit`, and `Left` holds of them.
 abbrev Fair : {E A : Type 0} → (ℕ → Bool) → ℕ → ℕ → (List E → Type 0) → Result E A → Type 0
@@ -120,5 +121,5 @@ pub keeps-outcome : {E A B : Type 0} {number : ℕ → Bool} {end : ℕ} {s : Li
 keeps-outcome {E} {A} {B} {number} {end} {s} {p} {Left} c l f n k = go (p 0 s) (c .run 0 (length s) (omega arith) l)
   where
     go : (x : Result E A) → Fair number end (length s) Left x → outcome (λ a. done (f a)) x ≡ refused n k → T (number n) × (k < end)
-    go (ok a j r) g e = let z : _≡_ {A = ℕ} 0 1 = cc in absurd (omega arith)
+    go (ok a j r) g e = impossible cc
     go (refuse m j) g e = let u : m ≡ n = cc in let v : j ≡ k = cc in rw (← u, ← v) g

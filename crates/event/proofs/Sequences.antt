@@ -7,6 +7,7 @@ use mathlib.Core.List.{List, _++_, append-assoc}
 use lib.ListN.{length, length-append}
 use Rattle.event.specs.Parser.{Result, ok, refuse, Parser, then, _>>=_, give}
 use Rattle.event.proofs.Codes.{Codes, any}
+use Rattle.event.proofs.Impossible.{impossible}
 
 module _ {E A B : Type 0} where
   -- one parser after another: `part b` is the value of the first that b was made from, `Rest₁` what may follow it
@@ -23,7 +24,7 @@ module _ {E A B : Type 0} where
         where
           go : (x : Result E A) → p i s ≡ x → then q x ≡ ok b j r
               → (Good (part b) × Good′ (part b) b) × (s ≡ (print (part b) ++ print′ (part b) b) ++ r) × (j ≡ i + length (print (part b) ++ print′ (part b) b))
-          go (refuse n k) e f = let z : _≡_ {A = ℕ} 0 1 = cc in absurd (omega arith)
+          go (refuse n k) e f = impossible cc
           go (ok a k t) e f =
               let h = c .sound i s a k t e in
               let g = d a (h .0) .sound k t b j r f in
@@ -50,7 +51,7 @@ module _ {E A B : Type 0} where
     where
       go : (i : ℕ) (s : List E) (b : B) (j : ℕ) (r : List E) (x : Result E A) → p i s ≡ x → then (λ a. give (f a)) x ≡ ok b j r
           → (Good (part b) × (b ≡ f (part b))) × (s ≡ print (part b) ++ r) × (j ≡ i + length (print (part b)))
-      go i s b j r (refuse n k) e g = let z : _≡_ {A = ℕ} 0 1 = cc in absurd (omega arith)
+      go i s b j r (refuse n k) e g = impossible cc
       go i s b j r (ok a k t) e g =
           let h = c .sound i s a k t e in
           let u : b ≡ f a = cc in
@@ -70,7 +71,7 @@ module _ {E A B : Type 0} where
     where
       go : (i : ℕ) (s : List E) (b : B) (j : ℕ) (r : List E) (x : Result E A) → p i s ≡ x → then (λ a. give (f a)) x ≡ ok b j r
           → ((a : A) × Good a × (b ≡ f a)) × (s ≡ print′ b ++ r) × (j ≡ i + length (print′ b))
-      go i s b j r (refuse n k) e g = let z : _≡_ {A = ℕ} 0 1 = cc in absurd (omega arith)
+      go i s b j r (refuse n k) e g = impossible cc
       go i s b j r (ok a k t) e g =
           let h = c .sound i s a k t e in
           let u : b ≡ f a = cc in

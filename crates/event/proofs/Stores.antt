@@ -15,6 +15,7 @@ use Rattle.event.specs.Parser.{Result, ok, refuse}
 use Rattle.event.specs.Rows.{flatRow, flat, room, storeRow}
 use Rattle.event.specs.Outcome.{Outcome, done, outcome, limited, given, answerOf, overlaid}
 use Rattle.event.specs.Scanning.{storeRows, Scanned}
+use Rattle.event.proofs.Impossible.{impossible}
 
 length-flat : (rs : List Row) → length (flat rs) ≡ length rs * 4
 length-flat [] = refl
@@ -46,11 +47,11 @@ module _ {E A : Type 0} (rowsOf : A → List Row) (x : Result E A) (buffer : Lis
 
 module _ {E A : Type 0} (rowsOf : A → List Row) (buffer : List ℕ) where
   pub read-refused : (x : Result E A) {n p : ℕ} {b after : List ℕ} → Scanned rowsOf x 0 b (Refused n p) after → Read rowsOf x buffer (Refused n p) buffer
-  read-refused (ok a j r) s = let e = s .answered in let z : _≡_ {A = ℕ} 0 1 = cc in absurd (omega arith)
+  read-refused (ok a j r) s = let e = s .answered in impossible cc
   read-refused (refuse m q) s = record { answered = s .answered; written = refl }
 
   pub read-crowded : (x : Result E A) {k : ℕ} {b after : List ℕ} → Scanned rowsOf x 0 b (Accepted k) after → room (length buffer) < k → Read rowsOf x buffer (Refused 12 k) buffer
-  read-crowded (refuse m q) s h = let e = s .answered in let z : _≡_ {A = ℕ} 0 1 = cc in absurd (omega arith)
+  read-crowded (refuse m q) s h = let e = s .answered in impossible cc
   read-crowded (ok a j r) {k} s h =
       let e = s .answered in
       let c : k ≡ 0 + length (rowsOf a) = cc in
@@ -60,7 +61,7 @@ module _ {E A : Type 0} (rowsOf : A → List Row) (buffer : List ℕ) where
 
   pub read-fits : (x : Result E A) {k : ℕ} {b after after′ : List ℕ} {result : Answer} → Scanned rowsOf x 0 b (Accepted k) after → k ≤ room (length buffer)
       → Scanned rowsOf x 0 buffer result after′ → Read rowsOf x buffer result after′
-  read-fits (refuse m q) s h t = let e = s .answered in let z : _≡_ {A = ℕ} 0 1 = cc in absurd (omega arith)
+  read-fits (refuse m q) s h t = let e = s .answered in impossible cc
   read-fits (ok a j r) {k} s h t =
       let e = s .answered in
       let c : k ≡ 0 + length (rowsOf a) = cc in

@@ -13,16 +13,17 @@ use Rattle.event.specs.Parser.{Result, ok, refuse, Parser, ended}
 use Rattle.event.specs.Outcome.{Outcome, done, refused, outcome, limited}
 use Rattle.event.proofs.Codes.{Codes, At, nil}
 use Rattle.event.proofs.Ends.{Ends}
+use Rattle.event.proofs.Impossible.{impossible}
 
 module _ {E A B : Type 0} {p : Parser E A} {print : A → List E} {Good : A → Type 0} (c : Codes (At ended) p print Good) (f : A → Outcome B) where
-  pub whole : (a : A) → Good a → outcome f (p 0 (print a)) ≡ f a
-  whole a g = let h = c .complete a g 0 [] tt in rw (rw append-nil at (h .1))
+  pub printed : (a : A) → Good a → outcome f (p 0 (print a)) ≡ f a
+  printed a g = let h = c .complete a g 0 [] tt in rw (rw append-nil at (h .1))
 
   pub accepted : Ends ended p → (s : List E) (l : List B) → outcome f (p 0 s) ≡ done l → (a : A) × Good a × (print a ≡ s) × (f a ≡ done l)
   accepted ends s l e = go (p 0 s) refl e
     where
       go : (x : Result E A) → p 0 s ≡ x → outcome f x ≡ done l → (a : A) × Good a × (print a ≡ s) × (f a ≡ done l)
-      go (refuse n k) h q = let z : _≡_ {A = ℕ} 0 1 = cc in absurd (omega arith)
+      go (refuse n k) h q = impossible cc
       go (ok a j r) h q =
           let k = c .sound 0 s a j r h in
           let m : s ≡ print a = (rw (nil r (ends 0 s a j r h)) at (k .1)) ∙ append-nil (print a) in
@@ -31,11 +32,11 @@ module _ {E A B : Type 0} {p : Parser E A} {print : A → List E} {Good : A → 
 -- a test passed by an accepted input
 pub passed : {A : Type 0} (b : Bool) (x : Outcome A) (n k : ℕ) (l : List A) → cond b x (refused n k) ≡ done l → (b ≡ true) × (x ≡ done l)
 passed true x n k l e = (refl, e)
-passed false x n k l e = let z : _≡_ {A = ℕ} 0 1 = cc in absurd (omega arith)
+passed false x n k l e = impossible cc
 
 -- room: 12 and 24 come last, and only where there is too little
 pub limited-iff : {A : Type 0} (n room : ℕ) (x : Outcome A) (l : List A) → (limited n room x ≡ done l) ↔ ((x ≡ done l) × (length l ≤ room))
-limited-iff {A} n room (refused m k) l = (λ e. (e, let z : _≡_ {A = ℕ} 0 1 = cc in absurd (omega arith)), λ e. e .0)
+limited-iff {A} n room (refused m k) l = (λ e. (e, impossible cc), λ e. e .0)
 limited-iff {A} n room (done xs) l = (to, from)
   where
     to : cond (leb (length xs) room) (done xs) (refused n (length xs)) ≡ done l → (done xs ≡ done l) × (length l ≤ room)

@@ -17,6 +17,7 @@ use Rattle.event.specs.Words.{exactly}
 use Rattle.event.specs.Scanning.{storeRows}
 use Rattle.event.proofs.Leads.{leads-part, then-then}
 use Rattle.event.proofs.Loops.{to-the-end}
+use Rattle.event.proofs.Impossible.{impossible}
 use Rattle.s800_layout.specs.Event.{Packet, runOf, Event, eventTag, stampTag, numberTag}
 use Rattle.s800_layout.specs.Layout.{version, packetRows, runRows, rows, smallestEvent, largestEvent}
 use Rattle.s800_layout.specs.Reading.{between, packetOf, packet, stampContent, stampPacket, numberContent, numberPacket, runUpTo, eventOf, eventParser}
@@ -72,7 +73,7 @@ frame-size ws k e = go (leb smallestEvent (length ws)) refl
   where
     go : (x : Bool) → leb smallestEvent (length ws) ≡ x → smallestEvent ≤ length ws
     go true s = leb-true smallestEvent (length ws) s
-    go false s = let h = rw s at e in let z : _≡_ {A = ℕ} 0 1 = cc in absurd (omega arith)
+    go false s = let h = rw s at e in impossible cc
 
 pub frame-refused : (o : StampOrder) (ws : List ℕ) {before after : List ℕ} {r : Answer} {n p : ℕ} → r ≡ frameOf ws → r ≡ Refused n p → Begins o ws before after r
 frame-refused o ws e q = rw q (record { begun = frame-parsed ws ∙ rw (← e, q) })

@@ -21,7 +21,7 @@ use Rattle.s800_layout.specs.Reading.{datum, channelWords}
 use Rattle.s800.specs.declared.Opened.{Opened}
 use Rattle.s800.specs.declared.Opened.the-variants.{Channels, Refused}
 use Rattle.s800.specs.Channel.{formatOf, timesFormat, energiesFormat, adcFormat}
-use Rattle.s800.specs.Opening.{Standing, restOf, OpensAs}
+use Rattle.s800.specs.Opening.{PacketAt, restOf, OpensAs}
 use Rattle.s800.proofs.Inner.{inner-length, inner-tag, inner-read}
 use Rattle.s800.proofs.Opening.{is-between, opens-refused, opens-channels, last-rows}
 
@@ -42,7 +42,7 @@ adc-format : (base : ℕ) → formatOf (adcFormat base) ≡ adcEnergy
 unfolding present others
 adc-format base = refl
 
-module _ {ws : List ℕ} {start n k : ℕ} (s : Standing ws start n k) where
+module _ {ws : List ℕ} {start n k : ℕ} (s : PacketAt ws start n k) where
   pub flight-opens : {b after : List ℕ} → n ≤ 10 → after ≡ storeRows b k (row 1 0x5802 0 0 ∷ [])
       → OpensAs timeOfFlight ws start n k b after (Channels (timesFormat 0x0f0f) (start + 2) (start + n) (k + 1))
   flight-opens high q =

@@ -4,7 +4,7 @@ pub mod Inner
 pub mod Opening
 pub mod ChannelPackets
 pub mod SinglePackets
-pub mod RunPackets
+pub mod PacketsReadWhole
 pub mod Extent
 pub mod Packets
 pub mod Beginning

@@ -15,6 +15,7 @@ use Rattle.event.specs.Parser.{refuse, then, give, each}
 use Rattle.event.specs.Scanning.{storeRows, Scanned}
 use Rattle.event.proofs.Elements.{each-map}
 use Rattle.event.proofs.Leads.{leads-part, leads-done}
+use Rattle.event.proofs.Impossible.{impossible}
 use Rattle.s800_layout.specs.Event.{Datum, Form, Content, ChannelFormat}
 use Rattle.s800_layout.specs.Layout.{datumRow, packetRows}
 use Rattle.s800_layout.specs.Reading.{between, allowedLength, channelWords}
@@ -22,15 +23,15 @@ use Rattle.s800.specs.declared.Format.{Format}
 use Rattle.s800.specs.declared.Opened.{Opened}
 use Rattle.s800.specs.declared.Opened.the-variants.{Channels, Refused}
 use Rattle.s800.specs.Channel.{formatOf, channelRows, energiesFormat}
-use Rattle.s800.specs.Opening.{Standing, restOf, OpensAs}
+use Rattle.s800.specs.Opening.{PacketAt, restOf, OpensAs}
 
 -- a length within its bounds, or not
-module _ {ws : List ℕ} {start n k : ℕ} (s : Standing ws start n k) (low high : ℕ) (b : Bool) (e : b ≡ between low high n) where
+module _ {ws : List ℕ} {start n k : ℕ} (s : PacketAt ws start n k) (low high : ℕ) (b : Bool) (e : b ≡ between low high n) where
   pub inside : not b ≡ false → (low ≤ n) × (n ≤ high)
   inside h = go (leb low n) refl (leb n high) refl
     where
       never : b ≡ false → (low ≤ n) × (n ≤ high)
-      never f = let z : true ≡ false = sym (ap not f) ∙ h in let o : _≡_ {A = ℕ} 0 1 = cc in absurd (omega arith)
+      never f = let z : true ≡ false = sym (ap not f) ∙ h in impossible cc
 
       go : (x : Bool) → leb low n ≡ x → (y : Bool) → leb n high ≡ y → (low ≤ n) × (n ≤ high)
       go true p true q = (leb-true low n p, leb-true n high q)

@@ -12,6 +12,7 @@ use borrow.Author.Tests.{eq-eqb, eqb-true}
 use Rattle.event.specs.Parser.{Result, ok, refuse, then, give, ended, filled, member}
 use Rattle.event.proofs.Leads.{leads-trans}
 use Rattle.event.proofs.Loops.{leads-filled}
+use Rattle.event.proofs.Impossible.{impossible}
 use Rattle.s800_layout.specs.Event.{Opaque, focalPlaneTime, intermediateCrdc, targetPin, intermediateTrack, intermediatePpac, objectScintillator, Form, opaque, Content, Packet, tag, formOf}
 use Rattle.s800_layout.specs.Layout.{packetRows}
 use Rattle.s800_layout.specs.Reading.{allowedLength, content, packetContent, formWord, packet}
@@ -22,12 +23,9 @@ use Rattle.s800.specs.declared.Opened.the-variants.{Channels, Refused}
 use Rattle.s800.specs.Opening.{opaques, opaqueTag, restOf, OpensAs, OpensPacket}
 use Rattle.s800.proofs.Extent.{too-short, too-long, body}
 
-clash : false ≡ true → ⊥
-clash e = let z : _≡_ {A = ℕ} 0 1 = cc in omega arith
-
 -- one of the numbers that f gives
 which : {A : Type 0} (f : A → ℕ) (t : ℕ) (xs : List A) → true ≡ member t (map f xs) → (a : A) × (t ≡ f a)
-which f t [] e = let z : _≡_ {A = ℕ} 0 1 = cc in absurd (omega arith)
+which f t [] e = impossible cc
 which {A} f t (x ∷ xs) e = go (which f t xs) (eqb t (f x)) refl e
   where
     go : (true ≡ member t (map f xs) → (a : A) × (t ≡ f a)) → (b : Bool) → eqb t (f x) ≡ b → true ≡ b || member t (map f xs) → (a : A) × (t ≡ f a)
@@ -40,12 +38,12 @@ opaque-form t e = which (λ k. tag (opaque k)) t opaques e
 
 pub no-opaque : (t : ℕ) → false ≡ opaqueTag t → (k : Opaque) → t ≡ tag (opaque k) → ⊥
 unfolding opaqueTag
-no-opaque t e focalPlaneTime q = clash (rw q at e)
-no-opaque t e intermediateCrdc q = clash (rw q at e)
-no-opaque t e targetPin q = clash (rw q at e)
-no-opaque t e intermediateTrack q = clash (rw q at e)
-no-opaque t e intermediatePpac q = clash (rw q at e)
-no-opaque t e objectScintillator q = clash (rw q at e)
+no-opaque t e focalPlaneTime q = let c = rw q at e in impossible cc
+no-opaque t e intermediateCrdc q = let c = rw q at e in impossible cc
+no-opaque t e targetPin q = let c = rw q at e in impossible cc
+no-opaque t e intermediateTrack q = let c = rw q at e in impossible cc
+no-opaque t e intermediatePpac q = let c = rw q at e in impossible cc
+no-opaque t e objectScintillator q = let c = rw q at e in impossible cc
 
 -- what a packet holds fills it
 rest-ends : (f : Form) (ws : List ℕ) (start n : ℕ) → start + n ≤ length ws → 2 ≤ n → (q : Packet) (j : ℕ) (r : List ℕ) → restOf f ws start n ≡ ok q j r → T (ended r)
@@ -57,23 +55,23 @@ rest-ends f ws start n long two q j r e = go (allowedLength f n) refl e
     read : allowedLength f n ≡ true → (x : Result ℕ (Content f)) → content f start n (start + 2) (slice (start + 2) (start + n) ws) ≡ x
         → then (λ c. give (record { form = f; content = c })) x ≡ ok q j r → T (ended r)
     read a (ok c k t) g h = let u : t ≡ r = cc in rw u at (content-ends f start n a (start + 2) (slice (start + 2) (start + n) ws) c k t size g)
-    read a (refuse m p) g h = let z : _≡_ {A = ℕ} 0 1 = cc in absurd (omega arith)
+    read a (refuse m p) g h = impossible cc
 
     go : (b : Bool) → allowedLength f n ≡ b → then (λ (u : Unit {0}). packetContent f start n) (cond b (ok tt (start + 2) (slice (start + 2) (start + n) ws)) (refuse 7 start)) ≡ ok q j r → T (ended r)
     go true a h = read a (content f start n (start + 2) (slice (start + 2) (start + n) ws)) refl h
-    go false a h = let z : _≡_ {A = ℕ} 0 1 = cc in absurd (omega arith)
+    go false a h = impossible cc
 
 module _ (ws : List ℕ) (start : ℕ) {n : ℕ} (below : start < length ws) (d₀ : n ≡ getD ws start 0) where
   pub packet-short : {k : ℕ} {b after : List ℕ} {r : Opened} → n < 2 → r ≡ Refused 5 start → OpensPacket ws start k b after r
-  packet-short h q = rw q (record { opens = too-short formWord allowedLength packetContent ws start below d₀ h; lies = tt })
+  packet-short h q = rw q (record { opens = too-short formWord allowedLength packetContent ws start below d₀ h; ends = tt })
 
   module _ (two : 2 ≤ n) where
     pub packet-long : {k : ℕ} {b after : List ℕ} {r : Opened} → length ws - start < n → r ≡ Refused 5 start → OpensPacket ws start k b after r
-    packet-long h q = rw q (record { opens = too-long formWord allowedLength packetContent ws start below d₀ two h; lies = tt })
+    packet-long h q = rw q (record { opens = too-long formWord allowedLength packetContent ws start below d₀ two h; ends = tt })
 
     module _ (inside : n ≤ length ws - start) {t : ℕ} (d : t ≡ getD ws (start + 1) 0) where
       pub packet-unknown : {k : ℕ} {b after : List ℕ} {r : Opened} → eqb t (tag (formOf t)) ≡ false → r ≡ Refused 6 (start + 1) → OpensPacket ws start k b after r
-      packet-unknown z q = rw q (record { opens = body formWord allowedLength packetContent ws start below d₀ two inside d ∙ rw z; lies = tt })
+      packet-unknown z q = rw q (record { opens = body formWord allowedLength packetContent ws start below d₀ two inside d ∙ rw z; ends = tt })
 
       known : (f : Form) → t ≡ tag f → packet start (drop start ws) ≡ filled (slice (start + n) (length ws) ws) (restOf f ws start n)
       known f z =
@@ -81,7 +79,7 @@ module _ (ws : List ℕ) (start : ℕ) {n : ℕ} (below : start < length ws) (d�
           body formWord allowedLength packetContent ws start below d₀ two inside d ∙ rw (z, form-back f, eq-eqb (tag f) (tag f) refl, next)
 
       pub packet-known : (f : Form) {k : ℕ} {b after : List ℕ} (r : Opened) → t ≡ tag f → OpensAs f ws start n k b after r → OpensPacket ws start k b after r
-      packet-known f (Refused m p) z o = record { opens = known f z ∙ rw (o .opens); lies = tt }
+      packet-known f (Refused m p) z o = record { opens = known f z ∙ rw (o .opens); ends = tt }
       packet-known f {k} {b} (Channels m at e k′) z o =
           let l = o .opens .1 in
           let q = o .opens .0 in
@@ -95,5 +93,5 @@ module _ (ws : List ℕ) (start : ℕ) {n : ℕ} (below : start < length ws) (d�
                 leads = rw (known f z, ← d₀) (leads-trans (l .leads) (leads-filled packetRows (slice (start + n) (length ws) ws) (restOf f ws start n) k b (rest-ends f ws start n (omega arith) two)));
               },
             );
-            lies = (omega arith, omega arith);
+            ends = (omega arith, omega arith);
           }

@@ -22,6 +22,7 @@ use Rattle.event.proofs.Ends.{placed}
 use Rattle.event.proofs.Leads.{refused-scan, scanned-refuse}
 use Rattle.event.proofs.Loops.{to-the-end}
 use Rattle.event.proofs.Turns.{Reached, begin, stop, step, at-word}
+use Rattle.event.proofs.Impossible.{impossible}
 use Rattle.s800_layout.specs.Event.{Packet}
 use Rattle.s800_layout.specs.Layout.{contentWords, packetRows, rows, channels}
 use Rattle.s800_layout.specs.Reading.{datum, datumOf, channelWords, packet, eventParser}
@@ -76,12 +77,12 @@ module _ {ws : List ℕ} {i₀ k₀ i k : ℕ} {b₀ b : List ℕ} (h : Packets 
     over {k₂} {b₂} s few same = go (packet i (drop i ws)) refl (given s)
       where
         go : (x : Result ℕ Packet) → packet i (drop i ws) ≡ x → Scanned packetRows x k b (answer.Accepted k₂) b₂ → Packets ws i₀ k₀ b₀ e k₂ b₂
-        go (refuse n p) c t = let d = t .answered in let z : _≡_ {A = ℕ} 0 1 = cc in absurd (omega arith)
+        go (refuse n p) c t = let d = t .answered in impossible cc
         go (ok x j l) c t =
             let d = t .answered in
             let g : k₂ ≡ k + length (packetRows x) = cc in
             let end = opened .opens .0 in
-            let inside = opened .lies .1 in
+            let inside = opened .ends .1 in
             let f : packet i (slice i (length ws) ws) ≡ ok x e (slice e (length ws) ws) = rw (← to-the-end i ws, end) (packet-end ws i below x j l c) in
             step (λ u. codes-packet) (λ u q g r. refl) h below (le-refl (length ws)) f tt inside few g (t .stored) same
 

@@ -23,7 +23,7 @@ use Rattle.s800.specs.declared.Format.{Format}
 use Rattle.s800.specs.declared.Opened.{Opened}
 use Rattle.s800.specs.declared.Opened.the-variants.{Channels, Refused}
 use Rattle.s800.specs.Channel.{formatOf, faultOf, channelRows, energiesFormat}
-use Rattle.s800.specs.Opening.{Standing, HodoscopeHits, restOf, OpensAs}
+use Rattle.s800.specs.Opening.{PacketAt, HodoscopeHits, restOf, OpensAs}
 use Rattle.s800.proofs.Channels.{judged}
 use Rattle.s800.proofs.Opening.{is-between, opens-refused, opens-complete}
 use Rattle.s800.proofs.ChannelPackets.{first-word, energies-format}
@@ -36,7 +36,7 @@ three-words ws i l =
     at-word ws i (i + 3) (omega arith) l ∙ rw one (ap (getD ws i 0 ∷_) (at-word ws (i + 1) (i + 3) (omega arith) l ∙ rw two (ap (getD ws (i + 1) 0 ∷_)
     (at-word ws (i + 2) (i + 3) (omega arith) l ∙ rw (three, slice-empty (i + 3) ws)))))
 
-module _ {ws : List ℕ} {start n k : ℕ} (s : Standing ws start n k) (h : HodoscopeHits ws start n) where
+module _ {ws : List ℕ} {start n k : ℕ} (s : PacketAt ws start n k) (h : HodoscopeHits ws start n) where
   pub hits-length : {b after : List ℕ} {r : Opened} → (n ≡ 6 → ⊥) → r ≡ Refused 7 start → OpensAs hodoscope ws start n k b after r
   hits-length z q = opens-refused hodoscope q (rw (is-between 3 19 n (h .least) (h .most), first-word s (h .least) (sym (h .id)), ne-eqb n 6 z))
 
@@ -81,7 +81,7 @@ module _ (m : Format) (i w : ℕ) (g : Datum → Packet) (before : List Row) (ro
   one-word true n d e = rw e (leads-trans (record { leads = λ r l s. record { answered = s .answered; stored = s .stored } }) (leads-part before (channelRows m) (ok d (suc i) []) g packetRows k b rows))
   one-word false n d e = rw e (record { leads = λ r l s. record { answered = s .answered; stored = tt } })
 
-module _ {ws : List ℕ} {start n k : ℕ} (s : Standing ws start n k) (three : n ≡ 3) (fits : getD ws (start + 2) 0 < 2 ^ 16) where
+module _ {ws : List ℕ} {start n k : ℕ} (s : PacketAt ws start n k) (three : n ≡ 3) (fits : getD ws (start + 2) 0 < 2 ^ 16) where
   abbrev energy : ℕ
   energy = getD ws (start + 2) 0
 

@@ -41,8 +41,8 @@ pairFormat = record { kind = 6; base = 0; wide = false; barred = 0xffc0 }
 abbrev pub channelOf : Format → ℕ → ℕ
 channelOf m w = w / 2 ^ bitsOf m
 
-abbrev pub numberOf : Format → ℕ → ℕ
-numberOf m w = w % 2 ^ bitsOf m
+abbrev pub valueOf : Format → ℕ → ℕ
+valueOf m w = w % 2 ^ bitsOf m
 
 -- the refusal that the word w meets where `blocked` holds the channels that are barred and those seen, 0 for none
 unfoldable pub faultOf : Format → ℕ → ℕ → ℕ

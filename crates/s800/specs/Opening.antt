@@ -28,7 +28,7 @@ unfoldable pub opaqueTag : ℕ → Bool
 opaqueTag t = member t (map (λ k. tag (opaque k)) opaques)
 
 -- a packet of n words at `start` lies within the words, after no more rows than words
-pub record Standing (ws : List ℕ) (start n count : ℕ) : Type 0 where
+pub record PacketAt (ws : List ℕ) (start n count : ℕ) : Type 0 where
   pub two : 2 ≤ n
   pub inside : start + n ≤ length ws
   pub few : count ≤ start
@@ -78,11 +78,11 @@ pub record OpensAs (f : Form) (ws : List ℕ) (start n k : ℕ) (before after : 
   pub opens : Opens ws (start + n) packetRows (restOf f ws start n) k before after r
 
 -- channel words that are left lie within the packet, and the packet within the words
-abbrev pub Lies : List ℕ → ℕ → Opened → Type 0
-Lies ws start (Channels m at e k) = (start + 2 ≤ e) × (e ≤ length ws)
-Lies ws start (Refused n p) = Unit {0}
+abbrev pub EndInside : List ℕ → ℕ → Opened → Type 0
+EndInside ws start (Channels m at e k) = (start + 2 ≤ e) × (e ≤ length ws)
+EndInside ws start (Refused n p) = Unit {0}
 
 -- the packet at `start`, opened
 pub record OpensPacket (ws : List ℕ) (start k : ℕ) (before after : List ℕ) (r : Opened) : Type 0 where
   pub opens : Opens ws (start + getD ws start 0) packetRows (packet start (drop start ws)) k before after r
-  pub lies : Lies ws start r
+  pub ends : EndInside ws start r

@@ -9,7 +9,7 @@ ghost use Prim.Native.Nat.{_<_};
 ghost use denote.Ref.{now};
 ghost use Rattle.event.specs.Rows.{storeRow};
 ghost use Rattle.s800_layout.specs.Reading.{datumOf};
-ghost use Rattle.s800.specs.Channel.{formatOf, channelOf, numberOf, faultOf, channelRow};
+ghost use Rattle.s800.specs.Channel.{formatOf, channelOf, valueOf, faultOf, channelRow};
 
 pub(crate) fn channel_of(format: Format, w: u32) -> u32
     ensures { λ r. ⌜ r ≡ channelOf format w ⌝ }
@@ -20,8 +20,8 @@ pub(crate) fn channel_of(format: Format, w: u32) -> u32
     w / 4096
 }
 
-fn number_of(format: Format, w: u32) -> u32
-    ensures { λ r. ⌜ r ≡ numberOf format w ⌝ }
+fn value_of(format: Format, w: u32) -> u32
+    ensures { λ r. ⌜ r ≡ valueOf format w ⌝ }
 {
     if format.wide {
         return w % 8192;
@@ -53,7 +53,7 @@ pub(crate) fn store_channel(rows: &mut [u32], at: usize, format: Format, w: u32)
         kind: format.kind,
         unit: 0,
         channel: format.base + channel_of(format, w),
-        datum: number_of(format, w),
+        datum: value_of(format, w),
     };
     store_row(rows, at, row);
 }

@@ -1,13 +1,13 @@
 // The packets that end in channel words. Each function opens one: it reads the words before them.
 use crate::Opened;
 use crate::parts::adc_energies;
+use crate::parts::between;
 use crate::parts::complete;
 use crate::parts::energies;
 use crate::parts::refused;
 use crate::parts::store_datum;
 use crate::parts::store_packet;
 use crate::parts::times;
-use crate::parts::within;
 use crate::word::word;
 use event::Row;
 use event::kind;
@@ -15,7 +15,7 @@ use event::refusal;
 use event::rows::store_row;
 ghost use denote.Ref.{now};
 ghost use Rattle.s800_layout.specs.Event.{trigger, timeOfFlight, ionChamber, hodoscope, objectPin, vmeAdc};
-ghost use Rattle.s800.specs.Opening.{Standing, HodoscopeHits, OpensAs};
+ghost use Rattle.s800.specs.Opening.{PacketAt, HodoscopeHits, OpensAs};
 
 // 0x5801, 3 to 7 words: the pattern, then times of channels 8 to 11.
 pub(crate) fn open_trigger(
@@ -25,10 +25,10 @@ pub(crate) fn open_trigger(
     rows: &mut [u32],
     count: usize,
 ) -> Opened
-    requires { ⌜ Standing (now words) start size count ⌝ }
+    requires { ⌜ PacketAt (now words) start size count ⌝ }
     ensures { λ r. ⌜ OpensAs trigger (now (words .entry)) start size count (now (rows .entry)) (now (rows .exit)) r ⌝ }
 {
-    if !within(size, 3, 7) {
+    if !between(size, 3, 7) {
         return refused(refusal::LENGTH, start);
     }
     let pattern = word(words, start + 2);
@@ -53,10 +53,10 @@ pub(crate) fn open_time_of_flight(
     rows: &mut [u32],
     count: usize,
 ) -> Opened
-    requires { ⌜ Standing (now words) start size count ⌝ }
+    requires { ⌜ PacketAt (now words) start size count ⌝ }
     ensures { λ r. ⌜ OpensAs timeOfFlight (now (words .entry)) start size count (now (rows .entry)) (now (rows .exit)) r ⌝ }
 {
-    if !within(size, 2, 10) {
+    if !between(size, 2, 10) {
         return refused(refusal::LENGTH, start);
     }
     store_packet(rows, count, 0x5802, 0);
@@ -76,10 +76,10 @@ pub(crate) fn open_ion_chamber(
     rows: &mut [u32],
     count: usize,
 ) -> Opened
-    requires { ⌜ Standing (now words) start size count ⌝ }
+    requires { ⌜ PacketAt (now words) start size count ⌝ }
     ensures { λ r. ⌜ OpensAs ionChamber (now (words .entry)) start size count (now (rows .entry)) (now (rows .exit)) r ⌝ }
 {
-    if !within(size, 4, 20) {
+    if !between(size, 4, 20) {
         return refused(refusal::LENGTH, start);
     }
     if word(words, start + 2) as usize != size - 2 {
@@ -105,7 +105,7 @@ pub(crate) fn open_object_pin(
     rows: &mut [u32],
     count: usize,
 ) -> Opened
-    requires { ⌜ Standing (now words) start size count ⌝ }
+    requires { ⌜ PacketAt (now words) start size count ⌝ }
     ensures { λ r. ⌜ OpensAs objectPin (now (words .entry)) start size count (now (rows .entry)) (now (rows .exit)) r ⌝ }
 {
     if size != 3 {
@@ -128,10 +128,10 @@ pub(crate) fn open_hodoscope(
     rows: &mut [u32],
     count: usize,
 ) -> Opened
-    requires { ⌜ Standing (now words) start size count ⌝ }
+    requires { ⌜ PacketAt (now words) start size count ⌝ }
     ensures { λ r. ⌜ OpensAs hodoscope (now (words .entry)) start size count (now (rows .entry)) (now (rows .exit)) r ⌝ }
 {
-    if !within(size, 3, 19) {
+    if !between(size, 3, 19) {
         return refused(refusal::LENGTH, start);
     }
     let id = word(words, start + 2);
@@ -152,7 +152,7 @@ pub(crate) fn open_hodoscope(
 
 // 0x58b0 with id 2, 6 words: hit registers A and B, and the time.
 fn open_hits(words: &[u16], start: usize, size: usize, rows: &mut [u32], count: usize) -> Opened
-    requires { ⌜ Standing (now words) start size count × HodoscopeHits (now words) start size ⌝ }
+    requires { ⌜ PacketAt (now words) start size count × HodoscopeHits (now words) start size ⌝ }
     ensures { λ r. ⌜ OpensAs hodoscope (now (words .entry)) start size count (now (rows .entry)) (now (rows .exit)) r ⌝ }
 {
     if size != 6 {
@@ -177,10 +177,10 @@ pub(crate) fn open_vme_adc(
     rows: &mut [u32],
     count: usize,
 ) -> Opened
-    requires { ⌜ Standing (now words) start size count ⌝ }
+    requires { ⌜ PacketAt (now words) start size count ⌝ }
     ensures { λ r. ⌜ OpensAs vmeAdc (now (words .entry)) start size count (now (rows .entry)) (now (rows .exit)) r ⌝ }
 {
-    if !within(size, 3, 11) {
+    if !between(size, 3, 11) {
         return refused(refusal::LENGTH, start);
     }
     let id = word(words, start + 2);

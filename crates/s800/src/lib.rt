@@ -5,8 +5,8 @@ mod content;
 mod head;
 mod packet;
 mod parts;
-mod run_packets;
 mod scan;
+mod whole_packets;
 mod word;
 
 use crate::scan::scan;

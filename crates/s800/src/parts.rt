@@ -12,7 +12,7 @@ ghost use Rattle.s800_layout.specs.Reading.{between};
 ghost use Rattle.s800.specs.Channel.{timesFormat, energiesFormat, adcFormat};
 ghost use Rattle.s800.specs.Opening.{openedOf};
 
-pub(crate) fn within(size: usize, least: usize, most: usize) -> bool
+pub(crate) fn between(size: usize, least: usize, most: usize) -> bool
     ensures { λ r. ⌜ r ≡ between least most size ⌝ }
 {
     least <= size && size <= most

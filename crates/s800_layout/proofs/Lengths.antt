@@ -9,7 +9,7 @@ use lib.Dec.{T}
 use lib.ListN.{length, length-append, length-map}
 use borrow.Author.Tests.{eq-eqb, le-leb}
 use Rattle.event.specs.Parser.{each}
-use Rattle.event.proofs.Keys.{room, at-most}
+use Rattle.event.proofs.Keys.{unused, at-most}
 use Rattle.s800_layout.specs.Event.{Datum, Pair, energies, hits, focalPlaneTime, intermediateCrdc, targetPin, intermediateTrack, intermediatePpac, objectScintillator, Form, trigger, timeOfFlight, scintillator, ionChamber, crdc, hodoscope, objectPin, vmeAdc, opaque, Content, samplesTag, anodeTag, tag, formOf, ChannelFormat, triggerTime, flightTime, pairEnergy, energy16, adcEnergy}
 use Rattle.s800_layout.specs.Layout.{framed, datumWord, pairWords, sampleWords, samplesWords, anodeWords, contentWords, ValidDatum, ValidData, ValidPair, ValidContent}
 use Rattle.s800_layout.specs.Reading.{between, even, allowedLength}
@@ -31,7 +31,7 @@ form-back (opaque intermediatePpac) = refl
 form-back (opaque objectScintillator) = refl
 
 -- at most as many words as channels
-pub few : (f : ChannelFormat) (xs : List Datum) → ValidData f xs → length (map (datumWord f) xs) ≤ room (f .allowed) []
+pub few : (f : ChannelFormat) (xs : List Datum) → ValidData f xs → length (map (datumWord f) xs) ≤ unused (f .allowed) []
 few f xs v = rw (length-map xs (datumWord f)) (at-most (λ (d : Datum). d .channel) (f .allowed) (ValidDatum f) (λ seen d g. (g .0, g .1 .1 .0)) [] xs v)
 
 twice : {A : Type 0} (f : A → List ℕ) → ((a : A) → length (f a) ≡ 2) → (xs : List A) → length (each f xs) ≡ length xs + length xs

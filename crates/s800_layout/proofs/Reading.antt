@@ -11,16 +11,16 @@ use borrow.Author.Tests.{le-leb}
 use Rattle.event.specs.declared.Row.{Row}
 use Rattle.event.specs.declared.StampOrder.{StampOrder}
 use Rattle.event.specs.Outcome.{done, outcome}
-use Rattle.event.specs.Demands.{OneEvent}
+use Rattle.event.specs.Demands.{SomeEvent}
 use Rattle.event.proofs.Elements.{both}
-use Rattle.event.proofs.Whole.{whole, accepted, limited-iff}
+use Rattle.event.proofs.Whole.{printed, accepted, limited-iff}
 use Rattle.s800_layout.specs.Event.{Event, eventTag}
 use Rattle.s800_layout.specs.Layout.{version, packetsWords, words, rows, smallestEvent, largestEvent, Valid}
 use Rattle.s800_layout.specs.Reading.{eventParser, reading, readingInto}
 use Rattle.s800_layout.proofs.Event.{codes-words, ends-words}
 
 abbrev pub SEvent : StampOrder → List ℕ → List Row → Type 0
-SEvent o = OneEvent Valid words (rows o)
+SEvent o = SomeEvent Valid words (rows o)
 
 -- the length word is the number of words
 counted : (n : ℕ) (e : Event) → n ≡ length (words e) → n ∷ eventTag ∷ version ∷ packetsWords e ≡ words e
@@ -41,12 +41,12 @@ reading-iff o ws rs = (to, from)
         let e = v .event in
         let a = le-leb smallestEvent (length (words e)) (omega arith) in
         let b = le-leb (length (words e)) largestEvent (v .valid .size) in
-        let h = whole (codes-words (length (words e))) (λ x. done (rows o x)) e (rw (a, b) tt, v .valid .formed) in
+        let h = printed (codes-words (length (words e))) (λ x. done (rows o x)) e (rw (a, b) tt, v .valid .formed) in
         let k : reading o (words e) ≡ done (rows o e)
         = subst (λ (l : List ℕ). outcome (λ x. done (rows o x)) (eventParser (length (words e)) 0 l) ≡ done (rows o e)) (counted (length (words e)) e refl) h in
         rw (← v .itsWords, ← v .itsRows) k
 
--- Demand 2 for a reading: accepted exactly when one valid event has these words, and there is room for its rows, which are the rows given.
+-- Demand 2 for a reading: accepted exactly when some valid event has these words, and there is room for its rows, which are the rows given.
 pub reading-in-room : (room : ℕ) (o : StampOrder) (ws : List ℕ) (rs : List Row) → (readingInto room o ws ≡ done rs) ↔ (SEvent o ws rs × (length rs ≤ room))
 reading-in-room room o ws rs =
     let fits = limited-iff 12 room (reading o ws) rs in

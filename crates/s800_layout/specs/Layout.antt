@@ -86,9 +86,9 @@ words e = framed eventTag (version ∷ packetsWords e)
 
 -- Rows.
 
--- two 16-bit chunks as one number
-abbrev pub two : ℕ → ℕ → ℕ
-two high low = high * 2 ^ 16 + low
+-- two 16-bit chunks as one 32-bit number
+abbrev pub chunks32 : ℕ → ℕ → ℕ
+chunks32 high low = high * 2 ^ 16 + low
 
 -- the chunks lowest first. Crossed, they stand as bits 15-0, 47-32, 31-16, 63-48. (Its own inverse.)
 abbrev pub lowestFirst : StampOrder → Stamp → Stamp
@@ -96,10 +96,10 @@ lowestFirst Crossed s = record { chunk0 = s .chunk0; chunk1 = s .chunk2; chunk2 
 lowestFirst Rising s = s
 
 abbrev pub stampRow : StampOrder → Stamp → Row
-stampRow o s = row 2 0 (two (lowestFirst o s .chunk3) (lowestFirst o s .chunk2)) (two (lowestFirst o s .chunk1) (lowestFirst o s .chunk0))
+stampRow o s = row 2 0 (chunks32 (lowestFirst o s .chunk3) (lowestFirst o s .chunk2)) (chunks32 (lowestFirst o s .chunk1) (lowestFirst o s .chunk0))
 
 abbrev pub numberRow : Number → Row
-numberRow k = row 3 0 (k .chunk2) (two (k .chunk1) (k .chunk0))
+numberRow k = row 3 0 (k .chunk2) (chunks32 (k .chunk1) (k .chunk0))
 
 -- a time (kind 5) or an energy (kind 6); `base` is the row channel of channel 0
 abbrev pub datumRow : ℕ → ℕ → Datum → Row

@@ -11,7 +11,7 @@ add-t7 c =
     omega (arith, low-channel (c .before .before .before .args .format) (c .before .before .before .pre .1), c .before .channel-of .ensures)
 
 returns : tie.Need-returns
-returns c = c .before .before .store-row .ensures ∙ rw (c .before .before .before .before .before .before .channel-of .ensures, c .before .before .before .before .number-of .ensures)
+returns c = c .before .before .store-row .ensures ∙ rw (c .before .before .before .before .before .before .channel-of .ensures, c .before .before .before .before .value-of .ensures)
 
 pub store-channel-spec : {M : Type 1} → statement M
 store-channel-spec =

@@ -7,11 +7,11 @@ use Rattle.s800.proofs.channel_packets.open_time_of_flight.Statement.{s
 use Rattle.s800.proofs.channel_packets.open_time_of_flight.Tie as tie
 
 returns : tie.Need-returns
-returns c = wrong-length timeOfFlight (outside (c .before .before .before .before .before .pre) 2 10 _ (c .before .before .within .ensures) (c .before .if1 .taken)) (c .refused .ensures)
+returns c = wrong-length timeOfFlight (outside (c .before .before .before .before .before .pre) 2 10 _ (c .before .before .between .ensures) (c .before .if1 .taken)) (c .refused .ensures)
 
 returns-2 : tie.Need-returns-2
 returns-2 c =
-    let n = inside (c .before .before .before .before .before .before .before .before .before .pre) 2 10 _ (c .before .before .before .before .before .before .within .ensures) (c .before .before .before .before .before .if1 .left) in
+    let n = inside (c .before .before .before .before .before .before .before .before .before .pre) 2 10 _ (c .before .before .before .before .before .before .between .ensures) (c .before .before .before .before .before .if1 .left) in
     rw (c .times .ensures) (flight-opens (c .before .before .before .before .before .before .before .before .before .pre) (n .1) (c .before .before .before .store-packet .ensures))
 
 pub open-time-of-flight-spec : {M : Type 1} → statement M

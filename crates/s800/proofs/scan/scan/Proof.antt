@@ -35,12 +35,12 @@ loop-holds c =
     let o = rw (c .before .opened2 .given .1) at (c .before .before .before .before .before .open-packet .ensures) in
     let l = o .opens .1 in
     let e = o .opens .0 in
-    (begin blocked-none (rw e (l .inside)) (l .few), l .base, o .lies .1)
+    (begin blocked-none (rw e (l .inside)) (l .few), l .base, o .ends .1)
 
 packets-less : tie.Need-packets-less Inv-loop μ-loop Inv-packets μ-packets
 packets-less c =
     let o = rw (c .before .before .before .opened2 .given .1) at (c .before .before .before .before .before .before .before .open-packet .ensures) in
-    omega (arith, o .lies .0, o .lies .1, c .before .loop .inv .0 .inside)
+    omega (arith, o .ends .0, o .ends .1, c .before .loop .inv .0 .inside)
 
 packets-again : tie.Need-packets-again Inv-loop μ-loop Inv-packets μ-packets
 packets-again c =

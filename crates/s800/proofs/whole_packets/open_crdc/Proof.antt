@@ -1,11 +1,11 @@
--- `run_packets::open_crdc` meets its contract. Assumes nothing.
+-- `whole_packets::open_crdc` meets its contract. Assumes nothing.
 use mathlib.Core.Path.{refl, _∙_}
 use Rattle.s800_layout.specs.Event.{crdc}
 use Rattle.s800.proofs.Opening.{wrong-length}
-use Rattle.s800.proofs.RunPackets.{odd-crdc, short-crdc, crdc-id, crdc-length, crdc-tag}
+use Rattle.s800.proofs.PacketsReadWhole.{odd-crdc, short-crdc, crdc-id, crdc-length, crdc-tag}
 use borrow.Author.Needs.{needs}
-use Rattle.s800.proofs.run_packets.open_crdc.Statement.{statement}
-use Rattle.s800.proofs.run_packets.open_crdc.Tie as tie
+use Rattle.s800.proofs.whole_packets.open_crdc.Statement.{statement}
+use Rattle.s800.proofs.whole_packets.open_crdc.Tie as tie
 
 returns : tie.Need-returns
 returns c = wrong-length crdc (odd-crdc _ (c .before .if1 .taken)) (c .refused .ensures)

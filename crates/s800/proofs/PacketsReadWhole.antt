@@ -20,6 +20,7 @@ use Rattle.event.proofs.Elements.{each-map, codes-several}
 use Rattle.event.proofs.Ends.{ends-many}
 use Rattle.event.proofs.Leads.{leads-part, then-then, refused-scan, scanned-refuse, store-append}
 use Rattle.event.proofs.Loops.{at-end}
+use Rattle.event.proofs.Impossible.{impossible}
 use Rattle.s800_layout.specs.Event.{Sample, Samples, Crdc, Opaque, Form, scintillator, crdc, opaque, Packet, samplesTag, anodeTag, tag}
 use Rattle.s800_layout.specs.Layout.{pairRows, pairChannels, sampleRow, packetRows}
 use Rattle.s800_layout.specs.Reading.{even, allowedLength, inner, whole, pair, sample, samples, anode}
@@ -27,7 +28,7 @@ use Rattle.s800_layout.proofs.Words.{codes-sample}
 use Rattle.s800.specs.declared.Opened.{Opened}
 use Rattle.s800.specs.declared.Opened.the-variants as opened
 use Rattle.s800.specs.Channel.{opaqueRows, sampleRows, anodeRows, NoMore}
-use Rattle.s800.specs.Opening.{Standing, CrdcHead, crdcHeadRows, openedOf, restOf, OpensAs}
+use Rattle.s800.specs.Opening.{PacketAt, CrdcHead, crdcHeadRows, openedOf, restOf, OpensAs}
 use Rattle.s800.proofs.Inner.{inner-length, inner-tag, inner-read}
 use Rattle.s800.proofs.Runs.{read-whole}
 use Rattle.s800.proofs.ChannelPackets.{first-word}
@@ -54,7 +55,7 @@ long-scintillator n h = go (even n) (leb 2 n)
     go true false = refl
     go false b = refl
 
-module _ {ws : List ℕ} {start n k : ℕ} (s : Standing ws start n k) where
+module _ {ws : List ℕ} {start n k : ℕ} (s : PacketAt ws start n k) where
   pub scintillator-opens : {b b₁ after : List ℕ} (a : Answer) {r : Opened} → (n % 2 ≡ 1 → ⊥) → n ≤ 14 → b₁ ≡ storeRows b k (row 1 0x5810 0 0 ∷ [])
       → Scanned (each pairRows) (many pair pairChannels ended [] (start + 2) (slice (start + 2) (start + n) ws)) (k + 1) b₁ a after
       → NoMore (start + n) a → r ≡ openedOf (start + n) a → OpensAs scintillator ws start n k b after r
@@ -121,7 +122,7 @@ afterSamples id xs = inner 4 anodeTag anode >>= λ a. give (record { id = id; sa
 abbrev samplesFrom : List ℕ → (start n : ℕ) → Result ℕ (List Sample)
 samplesFrom ws start n = several sample ended (start + 6) (slice (start + 6) (start + n - 4) ws)
 
-module _ {ws : List ℕ} {start n k : ℕ} (s : Standing ws start n k) (parity : n % 2 ≡ 1 → ⊥) (least : 10 ≤ n) {id : ℕ} (a : id ≡ getD ws (start + 2) 0) where
+module _ {ws : List ℕ} {start n k : ℕ} (s : PacketAt ws start n k) (parity : n % 2 ≡ 1 → ⊥) (least : 10 ≤ n) {id : ℕ} (a : id ≡ getD ws (start + 2) 0) where
   allowed : allowedLength crdc n ≡ true
   allowed = rw (eq-eqb (n % 2) 0 (omega arith), le-leb 10 n least)
 
@@ -185,7 +186,7 @@ module _ {ws : List ℕ} {start n : ℕ} (h : CrdcHead ws start n) (long : start
 
   anode-leads : {k k₁ : ℕ} {b b₁ b₂ : List ℕ} → b₁ ≡ storeRows b k (crdcHeadRows ws start) → (x : Result ℕ (List Sample)) → samplesFrom ws start n ≡ x → Scanned (each sampleRows) x (k + 2) b₁ (Accepted k₁) b₂
       → Leads anodeRows (inner 4 anodeTag anode (start + n - 4) (slice (start + n - 4) (start + n) ws)) k₁ b₂ packetRows (restOf crdc ws start n) k b
-  anode-leads q (refuse m p) e t = let f = t .answered in let z : _≡_ {A = ℕ} 0 1 = cc in absurd (omega arith)
+  anode-leads q (refuse m p) e t = let f = t .answered in impossible cc
   anode-leads {k} {k₁} {b} {b₁} {b₂} q (ok xs j r) e t =
       let least = h .least in
       let before = crdcHeadRows ws start ++ each sampleRows xs in

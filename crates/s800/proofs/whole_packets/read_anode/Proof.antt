@@ -1,8 +1,8 @@
--- `run_packets::read_anode` meets its contract. Assumes nothing.
-use Rattle.s800.proofs.RunPackets.{anode-length, anode-tag, anode-read}
+-- `whole_packets::read_anode` meets its contract. Assumes nothing.
+use Rattle.s800.proofs.PacketsReadWhole.{anode-length, anode-tag, anode-read}
 use borrow.Author.Needs.{needs}
-use Rattle.s800.proofs.run_packets.read_anode.Statement.{statement}
-use Rattle.s800.proofs.run_packets.read_anode.Tie as tie
+use Rattle.s800.proofs.whole_packets.read_anode.Statement.{statement}
+use Rattle.s800.proofs.whole_packets.read_anode.Tie as tie
 
 returns : tie.Need-returns
 returns c = anode-length _ _ _ _ (c .before .before .before .before .before .pre .0) (c .before .before .word .ensures .0) _ (c .before .if1 .taken) (c .inner-refused .ensures)

@@ -1,8 +1,8 @@
--- `run_packets::open_opaque` meets its contract. Assumes nothing.
-use Rattle.s800.proofs.RunPackets.{opaque-opens}
+-- `whole_packets::open_opaque` meets its contract. Assumes nothing.
+use Rattle.s800.proofs.PacketsReadWhole.{opaque-opens}
 use borrow.Author.Needs.{needs}
-use Rattle.s800.proofs.run_packets.open_opaque.Statement.{statement}
-use Rattle.s800.proofs.run_packets.open_opaque.Tie as tie
+use Rattle.s800.proofs.whole_packets.open_opaque.Statement.{statement}
+use Rattle.s800.proofs.whole_packets.open_opaque.Tie as tie
 
 returns : tie.Need-returns
 returns c o e =

@@ -24,7 +24,7 @@ ghost use Rattle.event.specs.Scanning.{storeRows, Scanned};
 ghost use Rattle.s800_layout.specs.Event.{Opaque, scintillator, crdc, opaque, anodeTag, tag as tagOf};
 ghost use Rattle.s800_layout.specs.Reading.{inner, anode};
 ghost use Rattle.s800.specs.Channel.{anodeRows, NoMore};
-ghost use Rattle.s800.specs.Opening.{Standing, CrdcHead, crdcHeadRows, OpensAs};
+ghost use Rattle.s800.specs.Opening.{PacketAt, CrdcHead, crdcHeadRows, OpensAs};
 
 // 0x5810, an even length of 2 to 14 words: pairs of an energy and a time.
 pub(crate) fn open_scintillator(
@@ -34,7 +34,7 @@ pub(crate) fn open_scintillator(
     rows: &mut [u32],
     count: usize,
 ) -> Opened
-    requires { ⌜ Standing (now words) start size count ⌝ }
+    requires { ⌜ PacketAt (now words) start size count ⌝ }
     ensures { λ r. ⌜ OpensAs scintillator (now (words .entry)) start size count (now (rows .entry)) (now (rows .exit)) r ⌝ }
 {
     if size % 2 == 1 {
@@ -57,7 +57,7 @@ pub(crate) fn open_crdc(
     rows: &mut [u32],
     count: usize,
 ) -> Opened
-    requires { ⌜ Standing (now words) start size count ⌝ }
+    requires { ⌜ PacketAt (now words) start size count ⌝ }
     ensures { λ r. ⌜ OpensAs crdc (now (words .entry)) start size count (now (rows .entry)) (now (rows .exit)) r ⌝ }
 {
     if size % 2 == 1 {
@@ -133,7 +133,7 @@ pub(crate) fn open_opaque(
     rows: &mut [u32],
     count: usize,
 ) -> Opened
-    requires { ⌜ Standing (now words) start size count ⌝ }
+    requires { ⌜ PacketAt (now words) start size count ⌝ }
     ensures { λ r. ⌜ ((k : Opaque) → tag ≡ tagOf (opaque k) → OpensAs (opaque k) (now (words .entry)) start size count (now (rows .entry)) (now (rows .exit)) r) ⌝ }
 {
     store_packet(rows, count, tag, 0);

@@ -1,10 +1,10 @@
--- `run_packets::open_scintillator` meets its contract. Assumes nothing.
+-- `whole_packets::open_scintillator` meets its contract. Assumes nothing.
 use Rattle.s800_layout.specs.Event.{scintillator}
 use Rattle.s800.proofs.Opening.{wrong-length}
-use Rattle.s800.proofs.RunPackets.{odd-scintillator, long-scintillator, scintillator-opens}
+use Rattle.s800.proofs.PacketsReadWhole.{odd-scintillator, long-scintillator, scintillator-opens}
 use borrow.Author.Needs.{needs}
-use Rattle.s800.proofs.run_packets.open_scintillator.Statement.{statement}
-use Rattle.s800.proofs.run_packets.open_scintillator.Tie as tie
+use Rattle.s800.proofs.whole_packets.open_scintillator.Statement.{statement}
+use Rattle.s800.proofs.whole_packets.open_scintillator.Tie as tie
 
 returns : tie.Need-returns
 returns c = wrong-length scintillator (odd-scintillator _ (c .before .if1 .taken)) (c .refused .ensures)

@@ -1,9 +1,9 @@
--- `run_packets::read_crdc` meets its contract. Assumes nothing.
+-- `whole_packets::read_crdc` meets its contract. Assumes nothing.
 use native.Mathlib.Omega.{arith}
-use Rattle.s800.proofs.RunPackets.{crdc-refused, crdc-whole}
+use Rattle.s800.proofs.PacketsReadWhole.{crdc-refused, crdc-whole}
 use borrow.Author.Needs.{needs}
-use Rattle.s800.proofs.run_packets.read_crdc.Statement.{statement}
-use Rattle.s800.proofs.run_packets.read_crdc.Tie as tie
+use Rattle.s800.proofs.whole_packets.read_crdc.Statement.{statement}
+use Rattle.s800.proofs.whole_packets.read_crdc.Tie as tie
 
 returns : tie.Need-returns
 returns c k b e s =
