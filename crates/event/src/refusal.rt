@@ -1,4 +1,4 @@
-// The refusal numbers of document 01.
+// The refusal numbers of a reading (document 01), 1 to 12.
 
 // The event has too few or too many words.
 pub const SIZE: u32 = 1;

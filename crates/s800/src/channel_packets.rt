@@ -1,10 +1,10 @@
-// The packets that end in channel words. Each function opens one: it reads the words before them.
+// The packets that end in channel words, and the hodoscope's hits. Each function opens one: it reads the words before the channel words.
 use crate::Opened;
 use crate::parts::adc_energies;
 use crate::parts::between;
 use crate::parts::complete;
 use crate::parts::energies;
-use crate::parts::refused;
+use crate::parts::refuse_packet;
 use crate::parts::store_datum;
 use crate::parts::store_packet;
 use crate::parts::times;
@@ -29,11 +29,11 @@ pub(crate) fn open_trigger(
     ensures { λ r. ⌜ OpensAs trigger (now (words .entry)) start size count (now (rows .entry)) (now (rows .exit)) r ⌝ }
 {
     if !between(size, 3, 7) {
-        return refused(refusal::LENGTH, start);
+        return refuse_packet(refusal::LENGTH, start);
     }
     let pattern = word(words, start + 2);
     if 31 < pattern {
-        return refused(refusal::DATA, start + 2);
+        return refuse_packet(refusal::DATA, start + 2);
     }
     store_packet(rows, count, 0x5801, 0);
     store_datum(rows, count + 1, kind::TRIGGER_PATTERN, pattern);
@@ -57,7 +57,7 @@ pub(crate) fn open_time_of_flight(
     ensures { λ r. ⌜ OpensAs timeOfFlight (now (words .entry)) start size count (now (rows .entry)) (now (rows .exit)) r ⌝ }
 {
     if !between(size, 2, 10) {
-        return refused(refusal::LENGTH, start);
+        return refuse_packet(refusal::LENGTH, start);
     }
     store_packet(rows, count, 0x5802, 0);
     Opened::Channels {
@@ -80,13 +80,13 @@ pub(crate) fn open_ion_chamber(
     ensures { λ r. ⌜ OpensAs ionChamber (now (words .entry)) start size count (now (rows .entry)) (now (rows .exit)) r ⌝ }
 {
     if !between(size, 4, 20) {
-        return refused(refusal::LENGTH, start);
+        return refuse_packet(refusal::LENGTH, start);
     }
     if word(words, start + 2) as usize != size - 2 {
-        return refused(refusal::INNER, start + 2);
+        return refuse_packet(refusal::INNER, start + 2);
     }
     if word(words, start + 3) != 0x5821 {
-        return refused(refusal::INNER, start + 3);
+        return refuse_packet(refusal::INNER, start + 3);
     }
     store_packet(rows, count, 0x5820, 0);
     Opened::Channels {
@@ -109,7 +109,7 @@ pub(crate) fn open_object_pin(
     ensures { λ r. ⌜ OpensAs objectPin (now (words .entry)) start size count (now (rows .entry)) (now (rows .exit)) r ⌝ }
 {
     if size != 3 {
-        return refused(refusal::LENGTH, start);
+        return refuse_packet(refusal::LENGTH, start);
     }
     store_packet(rows, count, 0x58a0, 0);
     Opened::Channels {
@@ -132,11 +132,11 @@ pub(crate) fn open_hodoscope(
     ensures { λ r. ⌜ OpensAs hodoscope (now (words .entry)) start size count (now (rows .entry)) (now (rows .exit)) r ⌝ }
 {
     if !between(size, 3, 19) {
-        return refused(refusal::LENGTH, start);
+        return refuse_packet(refusal::LENGTH, start);
     }
     let id = word(words, start + 2);
     if 2 < id {
-        return refused(refusal::ID, start + 2);
+        return refuse_packet(refusal::ID, start + 2);
     }
     if id == 2 {
         return open_hits(words, start, size, rows, count);
@@ -156,7 +156,7 @@ fn open_hits(words: &[u16], start: usize, size: usize, rows: &mut [u32], count: 
     ensures { λ r. ⌜ OpensAs hodoscope (now (words .entry)) start size count (now (rows .entry)) (now (rows .exit)) r ⌝ }
 {
     if size != 6 {
-        return refused(refusal::LENGTH, start);
+        return refuse_packet(refusal::LENGTH, start);
     }
     store_packet(rows, count, 0x58b0, 2);
     let row = Row {
@@ -181,11 +181,11 @@ pub(crate) fn open_vme_adc(
     ensures { λ r. ⌜ OpensAs vmeAdc (now (words .entry)) start size count (now (rows .entry)) (now (rows .exit)) r ⌝ }
 {
     if !between(size, 3, 11) {
-        return refused(refusal::LENGTH, start);
+        return refuse_packet(refusal::LENGTH, start);
     }
     let id = word(words, start + 2);
     if 3 < id {
-        return refused(refusal::ID, start + 2);
+        return refuse_packet(refusal::ID, start + 2);
     }
     store_packet(rows, count, 0x58c0, id);
     Opened::Channels {

@@ -2,6 +2,7 @@
 use crate::Format;
 use crate::channel::channel_fault;
 use crate::pad;
+use crate::parts::refuse;
 use crate::word::word;
 use event::Answer;
 use event::Row;
@@ -65,27 +66,17 @@ pub(crate) fn read_samples(
     while i < end {
         let head = word(words, i);
         if head < 0x8000 {
-            return refused(i);
+            return refuse(refusal::DATA, i);
         }
         let datum = word(words, i + 1);
         if 0xfff < datum {
-            return refused(i + 1);
+            return refuse(refusal::DATA, i + 1);
         }
         store_sample(rows, count, head, datum);
         count += 1;
         i += 2;
     }
     Answer::Accepted(count)
-}
-
-// A data word that breaks its layout.
-fn refused(place: usize) -> Answer
-    ensures { λ r. ⌜ r ≡ Answer.Refused 10 place ⌝ }
-{
-    Answer::Refused {
-        number: refusal::DATA,
-        place,
-    }
 }
 
 fn store_sample(rows: &mut [u32], at: usize, head: u32, datum: u32)
@@ -125,7 +116,7 @@ pub(crate) fn read_pairs(
         let time = word(words, i + 1);
         let channel = energy / 4096;
         if time / 4096 != channel {
-            return refused(i + 1);
+            return refuse(refusal::DATA, i + 1);
         }
         blocked = with_channel(blocked, channel);
         store_pair(rows, count, energy, time);

@@ -1,4 +1,5 @@
 // The event's first 14 words: its length, tag and version, the stamp packet, the event number packet.
+use crate::parts::refuse;
 use crate::parts::store_packet;
 use crate::word::word;
 use event::Answer;
@@ -21,27 +22,21 @@ fn frame(words: &[u16]) -> Answer
 {
     let n = words.len();
     if n < 14 {
-        return refused(refusal::SIZE, 0);
+        return refuse(refusal::SIZE, 0);
     }
     if 4096 < n {
-        return refused(refusal::SIZE, 0);
+        return refuse(refusal::SIZE, 0);
     }
     if word(words, 0) as usize != n {
-        return refused(refusal::EVENT_LENGTH, 0);
+        return refuse(refusal::EVENT_LENGTH, 0);
     }
     if word(words, 1) != 0x5800 {
-        return refused(refusal::EVENT_TAG, 1);
+        return refuse(refusal::EVENT_TAG, 1);
     }
     if word(words, 2) != 5 {
-        return refused(refusal::VERSION, 2);
+        return refuse(refusal::VERSION, 2);
     }
     Answer::Accepted(0)
-}
-
-fn refused(number: u32, place: usize) -> Answer
-    ensures { λ r. ⌜ r ≡ Answer.Refused number place ⌝ }
-{
-    Answer::Refused { number, place }
 }
 
 // The refusal that a packet with one tag and one length meets at `start`, 0 for none.
@@ -71,9 +66,9 @@ fn head_refused(number: u32, start: usize) -> Answer
     ensures { λ r. ⌜ r ≡ Answer.Refused number (headPlace number start) ⌝ }
 {
     if number == refusal::TAG {
-        return refused(number, start + 1);
+        return refuse(number, start + 1);
     }
-    refused(number, start)
+    refuse(number, start)
 }
 
 // The stamp's chunks a to d, in word order.
@@ -134,13 +129,13 @@ pub(crate) fn begin(words: &[u16], order: StampOrder, rows: &mut [u32]) -> Answe
     let Answer::Accepted(_) = framed else {
         return framed;
     };
-    let stamp = head_fault(words, 3, 0x5803, 6);
-    if stamp != 0 {
-        return head_refused(stamp, 3);
+    let stamp_fault = head_fault(words, 3, 0x5803, 6);
+    if stamp_fault != 0 {
+        return head_refused(stamp_fault, 3);
     }
-    let number = head_fault(words, 9, 0x5804, 5);
-    if number != 0 {
-        return head_refused(number, 9);
+    let number_fault = head_fault(words, 9, 0x5804, 5);
+    if number_fault != 0 {
+        return head_refused(number_fault, 9);
     }
     store_stamp(words, order, rows);
     store_number(words, rows);

@@ -23,16 +23,16 @@ ghost use Rattle.s800_layout.specs.Reading.{readingInto};
 
 // How the channel words of a packet are read: the kind of their rows, the row channel of channel 0, whether the number below
 // the channel has 13 bits and not 12, and the channels not allowed, as a set of bits.
-pub(crate) struct Format {
-    pub(crate) kind: u32,
-    pub(crate) base: u32,
-    pub(crate) wide: bool,
-    pub(crate) barred: u32,
+struct Format {
+    kind: u32,
+    base: u32,
+    wide: bool,
+    barred: u32,
 }
 
 // What the first words of a packet lead to.
-pub(crate) enum Opened {
-    // Channel words from `at` up to the packet's end, after `count` rows of the event.
+enum Opened {
+    // Channel words from `at` up to the packet's end, none where `at` is the end, after `count` rows of the event.
     Channels {
         format: Format,
         at: usize,
@@ -57,7 +57,7 @@ pub fn read(words: &[u16], order: StampOrder, rows: &mut [u32]) -> Answer
     ensures answer { λ r. ⌜ r ≡ answerOf (readingInto (room (length (now (rows .entry)))) order (now (words .entry))) ⌝ }
     ensures buffer { λ _. ⌜ now (rows .exit) ≡ overlaid (flat (given (readingInto (room (length (now (rows .entry)))) order (now (words .entry))))) (now (rows .entry)) ⌝ }
 {
-    let mut none = [0u32; 1];
+    let mut none: [u32; 0] = [];
     let checked = scan(words, order, &mut none);
     let Answer::Accepted(count) = checked else {
         return checked;

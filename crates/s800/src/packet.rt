@@ -6,7 +6,7 @@ use crate::channel_packets::open_object_pin;
 use crate::channel_packets::open_time_of_flight;
 use crate::channel_packets::open_trigger;
 use crate::channel_packets::open_vme_adc;
-use crate::parts::refused;
+use crate::parts::refuse_packet;
 use crate::whole_packets::open_crdc;
 use crate::whole_packets::open_opaque;
 use crate::whole_packets::open_scintillator;
@@ -40,10 +40,10 @@ pub(crate) fn open_packet(words: &[u16], start: usize, rows: &mut [u32], count: 
 {
     let size = word(words, start) as usize;
     if size < 2 {
-        return refused(refusal::EXTENT, start);
+        return refuse_packet(refusal::EXTENT, start);
     }
     if words.len() - start < size {
-        return refused(refusal::EXTENT, start);
+        return refuse_packet(refusal::EXTENT, start);
     }
     let tag = word(words, start + 1);
     if is_opaque(tag) {
@@ -58,6 +58,6 @@ pub(crate) fn open_packet(words: &[u16], start: usize, rows: &mut [u32], count: 
         0x58b0 => open_hodoscope(words, start, size, rows, count),
         0x58a0 => open_object_pin(words, start, size, rows, count),
         0x58c0 => open_vme_adc(words, start, size, rows, count),
-        _ => refused(refusal::TAG, start + 1),
+        _ => refuse_packet(refusal::TAG, start + 1),
     }
 }

@@ -18,7 +18,13 @@ pub(crate) fn between(size: usize, least: usize, most: usize) -> bool
     least <= size && size <= most
 }
 
-pub(crate) fn refused(number: u32, place: usize) -> Opened
+pub(crate) fn refuse(number: u32, place: usize) -> Answer
+    ensures { λ r. ⌜ r ≡ Answer.Refused number place ⌝ }
+{
+    Answer::Refused { number, place }
+}
+
+pub(crate) fn refuse_packet(number: u32, place: usize) -> Opened
     ensures { λ r. ⌜ r ≡ Opened.Refused number place ⌝ }
 {
     Opened::Refused { number, place }
@@ -42,7 +48,7 @@ pub(crate) fn opened(answer: Answer, end: usize) -> Opened
 {
     match answer {
         Answer::Accepted(count) => complete(end, count),
-        Answer::Refused { number, place } => refused(number, place),
+        Answer::Refused { number, place } => refuse_packet(number, place),
     }
 }
 

@@ -21,14 +21,14 @@ pub(crate) fn scan(words: &[u16], order: StampOrder, rows: &mut [u32]) -> Answer
     ensures { λ r. ⌜ Scanned (rowsOf order) (eventParser (length (now (words .entry))) 0 (now (words .entry))) 0 (now (rows .entry)) r (now (rows .exit)) ⌝ }
 {
     let begun = begin(words, order, rows);
-    let Answer::Accepted(first) = begun else {
+    let Answer::Accepted(stored) = begun else {
         return begun;
     };
     let mut i: usize = 14;
-    let mut count = first;
+    let mut count = stored;
     let answer = 'packets: loop {
         if words.len() <= i {
-            break Answer::Accepted(count);
+            break 'packets Answer::Accepted(count);
         }
         let opened = open_packet(words, i, rows, count);
         match opened {

@@ -5,7 +5,8 @@ use crate::content::read_pairs;
 use crate::content::read_samples;
 use crate::parts::complete;
 use crate::parts::opened;
-use crate::parts::refused;
+use crate::parts::refuse;
+use crate::parts::refuse_packet;
 use crate::parts::store_datum;
 use crate::parts::store_packet;
 use crate::word::word;
@@ -38,10 +39,10 @@ pub(crate) fn open_scintillator(
     ensures { λ r. ⌜ OpensAs scintillator (now (words .entry)) start size count (now (rows .entry)) (now (rows .exit)) r ⌝ }
 {
     if size % 2 == 1 {
-        return refused(refusal::LENGTH, start);
+        return refuse_packet(refusal::LENGTH, start);
     }
     if 14 < size {
-        return refused(refusal::LENGTH, start);
+        return refuse_packet(refusal::LENGTH, start);
     }
     store_packet(rows, count, 0x5810, 0);
     let end = start + size;
@@ -61,20 +62,20 @@ pub(crate) fn open_crdc(
     ensures { λ r. ⌜ OpensAs crdc (now (words .entry)) start size count (now (rows .entry)) (now (rows .exit)) r ⌝ }
 {
     if size % 2 == 1 {
-        return refused(refusal::LENGTH, start);
+        return refuse_packet(refusal::LENGTH, start);
     }
     if size < 10 {
-        return refused(refusal::LENGTH, start);
+        return refuse_packet(refusal::LENGTH, start);
     }
     let id = word(words, start + 2);
     if 1 < id {
-        return refused(refusal::ID, start + 2);
+        return refuse_packet(refusal::ID, start + 2);
     }
     if word(words, start + 3) as usize != size - 7 {
-        return refused(refusal::INNER, start + 3);
+        return refuse_packet(refusal::INNER, start + 3);
     }
     if word(words, start + 4) != 0x5841 {
-        return refused(refusal::INNER, start + 4);
+        return refuse_packet(refusal::INNER, start + 4);
     }
     store_packet(rows, count, 0x5840, id);
     store_datum(rows, count + 1, kind::THRESHOLD, word(words, start + 5));
@@ -100,10 +101,10 @@ fn read_anode(words: &[u16], at: usize, rows: &mut [u32], count: usize) -> Answe
     ensures { λ r. ⌜ Scanned anodeRows (inner 4 anodeTag anode at (slice at (at + 4) (now (words .entry)))) count (now (rows .entry)) r (now (rows .exit)) × NoMore (at + 4) r ⌝ }
 {
     if word(words, at) != 4 {
-        return inner_refused(at);
+        return refuse(refusal::INNER, at);
     }
     if word(words, at + 1) != 0x5845 {
-        return inner_refused(at + 1);
+        return refuse(refusal::INNER, at + 1);
     }
     let row = Row {
         kind: kind::ANODE,
@@ -113,15 +114,6 @@ fn read_anode(words: &[u16], at: usize, rows: &mut [u32], count: usize) -> Answe
     };
     store_row(rows, count, row);
     Answer::Accepted(count + 1)
-}
-
-fn inner_refused(place: usize) -> Answer
-    ensures { λ r. ⌜ r ≡ Answer.Refused 9 place ⌝ }
-{
-    Answer::Refused {
-        number: refusal::INNER,
-        place,
-    }
 }
 
 // The packets of opaque words, 2 words and up.

@@ -6,7 +6,7 @@ use Rattle.s800.proofs.channel_packets.open_hits.Statement.{statement}
 use Rattle.s800.proofs.channel_packets.open_hits.Tie as tie
 
 returns : tie.Need-returns
-returns c = hits-length (c .before .before .before .before .pre .0) (c .before .before .before .before .pre .1) (c .before .if1 .taken) (c .refused .ensures)
+returns c = hits-length (c .before .before .before .before .pre .0) (c .before .before .before .before .pre .1) (c .before .if1 .taken) (c .refuse-packet .ensures)
 
 returns-2 : tie.Need-returns-2
 returns-2 c =

@@ -9,7 +9,7 @@ use Rattle.s800.proofs.channel_packets.open_hodoscope.Statement.{statem
 use Rattle.s800.proofs.channel_packets.open_hodoscope.Tie as tie
 
 returns : tie.Need-returns
-returns c = wrong-length hodoscope (outside (c .before .before .before .before .before .pre) 3 19 _ (c .before .before .between .ensures) (c .before .if1 .taken)) (c .refused .ensures)
+returns c = wrong-length hodoscope (outside (c .before .before .before .before .before .pre) 3 19 _ (c .before .before .between .ensures) (c .before .if1 .taken)) (c .refuse-packet .ensures)
 
 word-requires : tie.Need-word-requires
 word-requires c κs = omega (arith, inside (c .before .before .before .before .pre) 3 19 _ (c .before .between .ensures) (c .if1 .left))
@@ -17,7 +17,7 @@ word-requires c κs = omega (arith, inside (c .before .before .before .before .p
 returns-2 : tie.Need-returns-2
 returns-2 c =
     let n = inside (c .before .before .before .before .before .before .before .pre) 3 19 _ (c .before .before .before .before .between .ensures) (c .before .before .before .if1 .left) in
-    hodoscope-id (c .before .before .before .before .before .before .before .pre) (n .0) (c .before .before .word .ensures .0) (n .1) (c .before .if2 .taken) (c .refused2 .ensures)
+    hodoscope-id (c .before .before .before .before .before .before .before .pre) (n .0) (c .before .before .word .ensures .0) (n .1) (c .before .if2 .taken) (c .refuse-packet2 .ensures)
 
 open-hits-requires : tie.Need-open-hits-requires
 open-hits-requires c κs =

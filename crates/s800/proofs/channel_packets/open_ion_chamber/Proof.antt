@@ -8,7 +8,7 @@ use Rattle.s800.proofs.channel_packets.open_ion_chamber.Statement.{stat
 use Rattle.s800.proofs.channel_packets.open_ion_chamber.Tie as tie
 
 returns : tie.Need-returns
-returns c = wrong-length ionChamber (outside (c .before .before .before .before .before .pre) 4 20 _ (c .before .before .between .ensures) (c .before .if1 .taken)) (c .refused .ensures)
+returns c = wrong-length ionChamber (outside (c .before .before .before .before .before .pre) 4 20 _ (c .before .before .between .ensures) (c .before .if1 .taken)) (c .refuse-packet .ensures)
 
 word-requires : tie.Need-word-requires
 word-requires c κs = omega (arith, inside (c .before .before .before .before .pre) 4 20 _ (c .before .between .ensures) (c .if1 .left))
@@ -16,7 +16,7 @@ word-requires c κs = omega (arith, inside (c .before .before .before .before .p
 returns-2 : tie.Need-returns-2
 returns-2 c =
     let n = inside (c .before .before .before .before .before .before .before .pre) 4 20 _ (c .before .before .before .before .between .ensures) (c .before .before .before .if1 .left) in
-    chamber-length (c .before .before .before .before .before .before .before .pre) (n .0) (n .1) (c .before .before .word .ensures .0) (c .before .if2 .taken) (c .refused2 .ensures)
+    chamber-length (c .before .before .before .before .before .before .before .pre) (n .0) (n .1) (c .before .before .word .ensures .0) (c .before .if2 .taken) (c .refuse-packet2 .ensures)
 
 word-requires-2 : tie.Need-word-requires-2
 word-requires-2 c κs = omega (arith, inside (c .before .before .before .before .before .before .pre) 4 20 _ (c .before .before .before .between .ensures) (c .before .before .if1 .left))
@@ -24,7 +24,7 @@ word-requires-2 c κs = omega (arith, inside (c .before .before .before .before 
 returns-3 : tie.Need-returns-3
 returns-3 c =
     let n = inside (c .before .before .before .before .before .before .before .before .before .pre) 4 20 _ (c .before .before .before .before .before .before .between .ensures) (c .before .before .before .before .before .if1 .left) in
-    chamber-tag (c .before .before .before .before .before .before .before .before .before .pre) (n .0) (n .1) (c .before .before .before .before .word .ensures .0) (c .before .before .before .if2 .left) (c .before .before .word2 .ensures .0) (c .before .if3 .taken) (c .refused3 .ensures)
+    chamber-tag (c .before .before .before .before .before .before .before .before .before .pre) (n .0) (n .1) (c .before .before .before .before .word .ensures .0) (c .before .before .before .if2 .left) (c .before .before .word2 .ensures .0) (c .before .if3 .taken) (c .refuse-packet3 .ensures)
 
 returns-4 : tie.Need-returns-4
 returns-4 c =

@@ -10,7 +10,7 @@ use Rattle.s800.proofs.channel_packets.open_object_pin.Statement.{state
 use Rattle.s800.proofs.channel_packets.open_object_pin.Tie as tie
 
 returns : tie.Need-returns
-returns c = wrong-length objectPin (ne-eqb _ 3 (c .before .if1 .taken)) (c .refused .ensures)
+returns c = wrong-length objectPin (ne-eqb _ 3 (c .before .if1 .taken)) (c .refuse-packet .ensures)
 
 returns-2 : tie.Need-returns-2
 returns-2 c = rw (c .energies .ensures) (pin-opens (c .before .before .before .before .before .before .before .before .pre) (c .before .before .before .before .before .if1 .left) (omega (arith, c .before .before .before .before .before .before .before .shared-slice-known .given (c .before .before .before .before .before .before .before .before .args .start + 2))) (c .before .before .before .store-packet .ensures))

@@ -7,7 +7,7 @@ use Rattle.s800.proofs.channel_packets.open_time_of_flight.Statement.{s
 use Rattle.s800.proofs.channel_packets.open_time_of_flight.Tie as tie
 
 returns : tie.Need-returns
-returns c = wrong-length timeOfFlight (outside (c .before .before .before .before .before .pre) 2 10 _ (c .before .before .between .ensures) (c .before .if1 .taken)) (c .refused .ensures)
+returns c = wrong-length timeOfFlight (outside (c .before .before .before .before .before .pre) 2 10 _ (c .before .before .between .ensures) (c .before .if1 .taken)) (c .refuse-packet .ensures)
 
 returns-2 : tie.Need-returns-2
 returns-2 c =

@@ -8,7 +8,7 @@ use Rattle.s800.proofs.channel_packets.open_vme_adc.Statement.{statemen
 use Rattle.s800.proofs.channel_packets.open_vme_adc.Tie as tie
 
 returns : tie.Need-returns
-returns c = wrong-length vmeAdc (outside (c .before .before .before .before .before .pre) 3 11 _ (c .before .before .between .ensures) (c .before .if1 .taken)) (c .refused .ensures)
+returns c = wrong-length vmeAdc (outside (c .before .before .before .before .before .pre) 3 11 _ (c .before .before .between .ensures) (c .before .if1 .taken)) (c .refuse-packet .ensures)
 
 word-requires : tie.Need-word-requires
 word-requires c κs = omega (arith, inside (c .before .before .before .before .pre) 3 11 _ (c .before .between .ensures) (c .if1 .left))
@@ -16,7 +16,7 @@ word-requires c κs = omega (arith, inside (c .before .before .before .before .p
 returns-2 : tie.Need-returns-2
 returns-2 c =
     let n = inside (c .before .before .before .before .before .before .before .pre) 3 11 _ (c .before .before .before .before .between .ensures) (c .before .before .before .if1 .left) in
-    adc-id (c .before .before .before .before .before .before .before .pre) (n .0) (c .before .before .word .ensures .0) (n .1) (c .before .if2 .taken) (c .refused2 .ensures)
+    adc-id (c .before .before .before .before .before .before .before .pre) (n .0) (c .before .before .word .ensures .0) (n .1) (c .before .if2 .taken) (c .refuse-packet2 .ensures)
 
 returns-3 : tie.Need-returns-3
 returns-3 c =

@@ -31,8 +31,8 @@ returns-2 : tie.Need-returns-2 Inv-loop μ-loop
 returns-2 c =
     let l = c .before .before .before .before .before .before .before in (
       pair-stop-2 (l .loop .inv .0) (omega arith) (search needs) (c .before .before .before .before .before .word .ensures .0) (c .before .before .before .before .before .word .ensures .1) (c .before .before .word2 .ensures .0)
-          (sym (c .before .before .before .if1 .left) ∙ c .before .before .before .before .channel-fault .ensures ∙ rw (l .loop .inv .2)) _ (c .before .if2 .taken) (c .refused .ensures),
-      rw (c .refused .ensures) tt,
+          (sym (c .before .before .before .if1 .left) ∙ c .before .before .before .before .channel-fault .ensures ∙ rw (l .loop .inv .2)) _ (c .before .if2 .taken) (c .refuse .ensures),
+      rw (c .refuse .ensures) tt,
     )
 
 loop-again : tie.Need-loop-again Inv-loop μ-loop

@@ -17,12 +17,12 @@ abbrev μ-loop : tie.MeasureT-loop
 returns : tie.Need-returns Inv-loop μ-loop
 returns c =
     let l = c .before .before .before .before in
-    (sample-stop (l .loop .inv .0) (omega arith) (search needs) (c .before .before .word .ensures .0) _ (c .before .if1 .taken) (c .refused .ensures), rw (c .refused .ensures) tt)
+    (sample-stop (l .loop .inv .0) (omega arith) (search needs) (c .before .before .word .ensures .0) _ (c .before .if1 .taken) (c .refuse .ensures), rw (c .refuse .ensures) tt)
 
 returns-2 : tie.Need-returns-2 Inv-loop μ-loop
 returns-2 c =
     let l = c .before .before .before .before .before .before in
-    (sample-stop-2 (l .loop .inv .0) (omega arith) (search needs) (c .before .before .before .before .word .ensures .0) (c .before .before .word2 .ensures .0) (c .before .before .before .before .word .ensures .1) (c .before .before .before .if1 .left) _ (c .before .if2 .taken) (c .refused2 .ensures), rw (c .refused2 .ensures) tt)
+    (sample-stop-2 (l .loop .inv .0) (omega arith) (search needs) (c .before .before .before .before .word .ensures .0) (c .before .before .word2 .ensures .0) (c .before .before .before .before .word .ensures .1) (c .before .before .before .if1 .left) _ (c .before .if2 .taken) (c .refuse2 .ensures), rw (c .refuse2 .ensures) tt)
 
 loop-again : tie.Need-loop-again Inv-loop μ-loop
 loop-again c =

@@ -8,22 +8,22 @@ use Rattle.s800.proofs.head.frame.Tie as tie
 
 returns-2 : tie.Need-returns-2
 unfolding frameOf
-returns-2 c = c .refused2 .ensures ∙ rw (le-leb _ _ (c .before .before .if1 .left), lt-leb _ _ (c .before .if2 .taken))
+returns-2 c = c .refuse2 .ensures ∙ rw (le-leb _ _ (c .before .before .if1 .left), lt-leb _ _ (c .before .if2 .taken))
 
 returns-3 : tie.Need-returns-3
 unfolding frameOf
-returns-3 c = c .refused3 .ensures ∙ rw (le-leb _ _ (c .before .before .before .before .if1 .left), le-leb _ _ (c .before .before .before .if2 .left), ← c .before .before .word .ensures .0, ne-eqb _ _ (c .before .if3 .taken))
+returns-3 c = c .refuse3 .ensures ∙ rw (le-leb _ _ (c .before .before .before .before .if1 .left), le-leb _ _ (c .before .before .before .if2 .left), ← c .before .before .word .ensures .0, ne-eqb _ _ (c .before .if3 .taken))
 
 returns-4 : tie.Need-returns-4
 unfolding frameOf
 returns-4 c =
-    c .refused4 .ensures
+    c .refuse4 .ensures
     ∙ rw (le-leb _ _ (c .before .before .before .before .before .before .if1 .left), le-leb _ _ (c .before .before .before .before .before .if2 .left), ← c .before .before .before .before .word .ensures .0, eq-eqb _ _ (c .before .before .before .if3 .left), ← c .before .before .word2 .ensures .0, ne-eqb _ _ (c .before .if4 .taken))
 
 returns-5 : tie.Need-returns-5
 unfolding frameOf
 returns-5 c =
-    c .refused5 .ensures
+    c .refuse5 .ensures
     ∙ rw (
       le-leb _ _ (c .before .before .before .before .before .before .before .before .if1 .left),
       le-leb _ _ (c .before .before .before .before .before .before .before .if2 .left),
@@ -55,7 +55,7 @@ frame-spec =
     tie.close
     (tie.spec
     (λ c κs. search needs)
-    (λ c. c .refused .ensures ∙ rw (lt-leb _ _ (c .before .if1 .taken)))
+    (λ c. c .refuse .ensures ∙ rw (lt-leb _ _ (c .before .if1 .taken)))
     (λ c κs. search needs)
     returns-2
     (λ c κs. search needs)

@@ -11,6 +11,6 @@ head-refused-spec =
     (tie.spec
     (λ c. search needs)
     (λ c κs. search needs)
-    (λ c. c .refused .ensures ∙ rw (eq-eqb _ 6 (c .before .if1 .taken)))
+    (λ c. c .refuse .ensures ∙ rw (eq-eqb _ 6 (c .before .if1 .taken)))
     (λ c κs. search needs)
-    (λ c. c .refused2 .ensures ∙ rw (ne-eqb _ 6 (c .before .if1 .left))))
+    (λ c. c .refuse2 .ensures ∙ rw (ne-eqb _ 6 (c .before .if1 .left))))

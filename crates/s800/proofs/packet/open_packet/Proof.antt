@@ -17,10 +17,10 @@ arm : (w : tie.After-word2) (f : Form) {k : ℕ} {b after : List ℕ} (r : Opene
 arm w f r e o = packet-known _ _ (w .before .before .before .before .before .before .pre .0) (w .before .before .before .word .ensures .0) (w .before .before .if1 .left) (w .before .if2 .left) (w .word2 .ensures .0) f r e o
 
 returns : tie.Need-returns
-returns c = packet-short _ _ (c .before .before .before .before .before .pre .0) (c .before .before .word .ensures .0) (c .before .if1 .taken) (c .refused .ensures)
+returns c = packet-short _ _ (c .before .before .before .before .before .pre .0) (c .before .before .word .ensures .0) (c .before .if1 .taken) (c .refuse-packet .ensures)
 
 returns-2 : tie.Need-returns-2
-returns-2 c = packet-long _ _ (c .before .before .before .before .before .before .pre .0) (c .before .before .before .word .ensures .0) (c .before .before .if1 .left) (c .before .if2 .taken) (c .refused2 .ensures)
+returns-2 c = packet-long _ _ (c .before .before .before .before .before .before .pre .0) (c .before .before .before .word .ensures .0) (c .before .before .if1 .left) (c .before .if2 .taken) (c .refuse-packet2 .ensures)
 
 returns-3 : tie.Need-returns-3
 returns-3 c =
@@ -52,7 +52,7 @@ returns-12 : tie.Need-returns-12
 returns-12 c =
     let w = c .before .before .before .before in
     packet-unknown _ _ (w .before .before .before .before .before .before .pre .0) (w .before .before .before .word .ensures .0) (w .before .before .if1 .left) (w .before .if2 .left) (w .word2 .ensures .0)
-    (ne-eqb (w .word2 .result) (tag (formOf (w .word2 .result))) (never (formOf (w .word2 .result)))) (c .refused3 .ensures)
+    (ne-eqb (w .word2 .result) (tag (formOf (w .word2 .result))) (never (formOf (w .word2 .result)))) (c .refuse-packet3 .ensures)
   where
     never : (f : Form) → c .before .before .before .before .word2 .result ≡ tag f → ⊥
     never trigger = c .before .match .rest .0 .0 .0 .0 .0 .0 .0 .1

@@ -13,4 +13,4 @@ opened-spec =
     (λ c. search needs)
     (λ c κs. search needs)
     (λ c. c .complete .ensures ∙ rw (c .before .before .answer .given .1))
-    (λ c. c .refused .ensures ∙ rw (c .before .before .answer2 .given .1)))
+    (λ c. c .refuse-packet .ensures ∙ rw (c .before .before .answer2 .given .1)))

@@ -7,10 +7,10 @@ use Rattle.s800.proofs.whole_packets.open_scintillator.Statement.{state
 use Rattle.s800.proofs.whole_packets.open_scintillator.Tie as tie
 
 returns : tie.Need-returns
-returns c = wrong-length scintillator (odd-scintillator _ (c .before .if1 .taken)) (c .refused .ensures)
+returns c = wrong-length scintillator (odd-scintillator _ (c .before .if1 .taken)) (c .refuse-packet .ensures)
 
 returns-2 : tie.Need-returns-2
-returns-2 c = wrong-length scintillator (long-scintillator _ (c .before .if2 .taken)) (c .refused2 .ensures)
+returns-2 c = wrong-length scintillator (long-scintillator _ (c .before .if2 .taken)) (c .refuse-packet2 .ensures)
 
 returns-3 : tie.Need-returns-3
 returns-3 c = scintillator-opens (c .before .before .before .before .before .before .before .before .before .before .before .before .before .pre) _ (c .before .before .before .before .before .before .before .before .before .before .if1 .left) (c .before .before .before .before .before .before .before .before .before .if2 .left) (c .before .before .before .before .before .before .before .store-packet .ensures) (c .before .before .before .read-pairs .ensures .0) (c .before .before .before .read-pairs .ensures .1) (c .opened .ensures)

@@ -5,10 +5,10 @@ use Rattle.s800.proofs.whole_packets.read_anode.Statement.{statement}
 use Rattle.s800.proofs.whole_packets.read_anode.Tie as tie
 
 returns : tie.Need-returns
-returns c = anode-length _ _ _ _ (c .before .before .before .before .before .pre .0) (c .before .before .word .ensures .0) _ (c .before .if1 .taken) (c .inner-refused .ensures)
+returns c = anode-length _ _ _ _ (c .before .before .before .before .before .pre .0) (c .before .before .word .ensures .0) _ (c .before .if1 .taken) (c .refuse .ensures)
 
 returns-2 : tie.Need-returns-2
-returns-2 c = anode-tag _ _ _ _ (c .before .before .before .before .before .before .before .pre .0) (c .before .before .before .before .word .ensures .0) (c .before .before .before .if1 .left) (c .before .before .word2 .ensures .0) _ (c .before .if2 .taken) (c .inner-refused2 .ensures)
+returns-2 c = anode-tag _ _ _ _ (c .before .before .before .before .before .before .before .pre .0) (c .before .before .before .before .word .ensures .0) (c .before .before .before .if1 .left) (c .before .before .word2 .ensures .0) _ (c .before .if2 .taken) (c .refuse2 .ensures)
 
 returns-3 : tie.Need-returns-3
 returns-3 c =
