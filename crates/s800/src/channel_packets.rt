@@ -8,6 +8,7 @@ use crate::parts::refuse_packet;
 use crate::parts::store_datum;
 use crate::parts::store_packet;
 use crate::parts::times;
+use crate::tag;
 use crate::word::word;
 use event::Row;
 use event::kind;
@@ -35,7 +36,7 @@ pub(crate) fn open_trigger(
     if 31 < pattern {
         return refuse_packet(refusal::DATA, start + 2);
     }
-    store_packet(rows, count, 0x5801, 0);
+    store_packet(rows, count, tag::TRIGGER, 0);
     store_datum(rows, count + 1, kind::TRIGGER_PATTERN, pattern);
     Opened::Channels {
         format: times(0xf0ff),
@@ -59,7 +60,7 @@ pub(crate) fn open_time_of_flight(
     if !between(size, 2, 10) {
         return refuse_packet(refusal::LENGTH, start);
     }
-    store_packet(rows, count, 0x5802, 0);
+    store_packet(rows, count, tag::TIME_OF_FLIGHT, 0);
     Opened::Channels {
         format: times(0x0f0f),
         at: start + 2,
@@ -85,10 +86,10 @@ pub(crate) fn open_ion_chamber(
     if word(words, start + 2) as usize != size - 2 {
         return refuse_packet(refusal::INNER, start + 2);
     }
-    if word(words, start + 3) != 0x5821 {
+    if word(words, start + 3) != tag::ION_CHAMBER_ENERGIES {
         return refuse_packet(refusal::INNER, start + 3);
     }
-    store_packet(rows, count, 0x5820, 0);
+    store_packet(rows, count, tag::ION_CHAMBER, 0);
     Opened::Channels {
         format: energies(0),
         at: start + 4,
@@ -111,7 +112,7 @@ pub(crate) fn open_object_pin(
     if size != 3 {
         return refuse_packet(refusal::LENGTH, start);
     }
-    store_packet(rows, count, 0x58a0, 0);
+    store_packet(rows, count, tag::OBJECT_PIN, 0);
     Opened::Channels {
         format: energies(0),
         at: start + 2,
@@ -141,7 +142,7 @@ pub(crate) fn open_hodoscope(
     if id == 2 {
         return open_hits(words, start, size, rows, count);
     }
-    store_packet(rows, count, 0x58b0, id);
+    store_packet(rows, count, tag::HODOSCOPE, id);
     Opened::Channels {
         format: energies(16 * id),
         at: start + 3,
@@ -158,7 +159,7 @@ fn open_hits(words: &[u16], start: usize, size: usize, rows: &mut [u32], count: 
     if size != 6 {
         return refuse_packet(refusal::LENGTH, start);
     }
-    store_packet(rows, count, 0x58b0, 2);
+    store_packet(rows, count, tag::HODOSCOPE, 2);
     let row = Row {
         kind: kind::HODOSCOPE_HITS,
         unit: word(words, start + 3),
@@ -187,7 +188,7 @@ pub(crate) fn open_vme_adc(
     if 3 < id {
         return refuse_packet(refusal::ID, start + 2);
     }
-    store_packet(rows, count, 0x58c0, id);
+    store_packet(rows, count, tag::VME_ADC, id);
     Opened::Channels {
         format: adc_energies(8 * id),
         at: start + 3,

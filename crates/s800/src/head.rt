@@ -1,6 +1,7 @@
 // The event's first 14 words: its length, tag and version, the stamp packet, the event number packet.
 use crate::parts::refuse;
 use crate::parts::store_packet;
+use crate::tag;
 use crate::word::word;
 use event::Answer;
 use event::Row;
@@ -30,7 +31,7 @@ fn frame(words: &[u16]) -> Answer
     if word(words, 0) as usize != n {
         return refuse(refusal::EVENT_LENGTH, 0);
     }
-    if word(words, 1) != 0x5800 {
+    if word(words, 1) != tag::EVENT {
         return refuse(refusal::EVENT_TAG, 1);
     }
     if word(words, 2) != 5 {
@@ -96,7 +97,7 @@ fn store_stamp(words: &[u16], order: StampOrder, rows: &mut [u32])
     requires { ⌜ 14 ≤ length (now words) ⌝ }
     ensures { λ _. ⌜ now (rows .exit) ≡ storeRows (now (rows .entry)) 0 (stampRows order (now (words .entry))) ⌝ }
 {
-    store_packet(rows, 0, 0x5803, 0);
+    store_packet(rows, 0, tag::TIMESTAMP, 0);
     let stamp = stamp_row(
         order,
         word(words, 5),
@@ -111,7 +112,7 @@ fn store_number(words: &[u16], rows: &mut [u32])
     requires { ⌜ 14 ≤ length (now words) ⌝ }
     ensures { λ _. ⌜ now (rows .exit) ≡ storeRows (now (rows .entry)) 2 (numberRows (now (words .entry))) ⌝ }
 {
-    store_packet(rows, 2, 0x5804, 0);
+    store_packet(rows, 2, tag::EVENT_NUMBER, 0);
     let number = Row {
         kind: kind::EVENT_NUMBER,
         unit: 0,
@@ -129,11 +130,11 @@ pub(crate) fn begin(words: &[u16], order: StampOrder, rows: &mut [u32]) -> Answe
     let Answer::Accepted(_) = framed else {
         return framed;
     };
-    let stamp_fault = head_fault(words, 3, 0x5803, 6);
+    let stamp_fault = head_fault(words, 3, tag::TIMESTAMP, 6);
     if stamp_fault != 0 {
         return head_refused(stamp_fault, 3);
     }
-    let number_fault = head_fault(words, 9, 0x5804, 5);
+    let number_fault = head_fault(words, 9, tag::EVENT_NUMBER, 5);
     if number_fault != 0 {
         return head_refused(number_fault, 9);
     }

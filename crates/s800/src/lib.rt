@@ -6,6 +6,7 @@ mod head;
 mod packet;
 mod parts;
 mod scan;
+mod tag;
 mod whole_packets;
 mod word;
 

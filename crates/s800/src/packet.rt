@@ -7,6 +7,7 @@ use crate::channel_packets::open_time_of_flight;
 use crate::channel_packets::open_trigger;
 use crate::channel_packets::open_vme_adc;
 use crate::parts::refuse_packet;
+use crate::tag;
 use crate::whole_packets::open_crdc;
 use crate::whole_packets::open_opaque;
 use crate::whole_packets::open_scintillator;
@@ -23,12 +24,12 @@ fn is_opaque(tag: u32) -> bool
     ensures { λ r. ⌜ r ≡ opaqueTag tag ⌝ }
 {
     match tag {
-        0x5830 => true,
-        0x5850 => true,
-        0x5860 => true,
-        0x5870 => true,
-        0x5880 => true,
-        0x5890 => true,
+        tag::FOCAL_PLANE_TIME => true,
+        tag::INTERMEDIATE_CRDC => true,
+        tag::TARGET_PIN => true,
+        tag::INTERMEDIATE_TRACK => true,
+        tag::INTERMEDIATE_PPAC => true,
+        tag::OBJECT_SCINTILLATOR => true,
         _ => false,
     }
 }
@@ -50,14 +51,14 @@ pub(crate) fn open_packet(words: &[u16], start: usize, rows: &mut [u32], count: 
         return open_opaque(words, start, size, tag, rows, count);
     }
     match tag {
-        0x5801 => open_trigger(words, start, size, rows, count),
-        0x5802 => open_time_of_flight(words, start, size, rows, count),
-        0x5810 => open_scintillator(words, start, size, rows, count),
-        0x5820 => open_ion_chamber(words, start, size, rows, count),
-        0x5840 => open_crdc(words, start, size, rows, count),
-        0x58b0 => open_hodoscope(words, start, size, rows, count),
-        0x58a0 => open_object_pin(words, start, size, rows, count),
-        0x58c0 => open_vme_adc(words, start, size, rows, count),
+        tag::TRIGGER => open_trigger(words, start, size, rows, count),
+        tag::TIME_OF_FLIGHT => open_time_of_flight(words, start, size, rows, count),
+        tag::SCINTILLATOR => open_scintillator(words, start, size, rows, count),
+        tag::ION_CHAMBER => open_ion_chamber(words, start, size, rows, count),
+        tag::CRDC => open_crdc(words, start, size, rows, count),
+        tag::HODOSCOPE => open_hodoscope(words, start, size, rows, count),
+        tag::OBJECT_PIN => open_object_pin(words, start, size, rows, count),
+        tag::VME_ADC => open_vme_adc(words, start, size, rows, count),
         _ => refuse_packet(refusal::TAG, start + 1),
     }
 }

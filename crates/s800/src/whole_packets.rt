@@ -9,6 +9,7 @@ use crate::parts::refuse;
 use crate::parts::refuse_packet;
 use crate::parts::store_datum;
 use crate::parts::store_packet;
+use crate::tag;
 use crate::word::word;
 use event::Answer;
 use event::Row;
@@ -44,7 +45,7 @@ pub(crate) fn open_scintillator(
     if 14 < size {
         return refuse_packet(refusal::LENGTH, start);
     }
-    store_packet(rows, count, 0x5810, 0);
+    store_packet(rows, count, tag::SCINTILLATOR, 0);
     let end = start + size;
     opened(read_pairs(words, start + 2, end, rows, count + 1), end)
 }
@@ -74,10 +75,10 @@ pub(crate) fn open_crdc(
     if word(words, start + 3) as usize != size - 7 {
         return refuse_packet(refusal::INNER, start + 3);
     }
-    if word(words, start + 4) != 0x5841 {
+    if word(words, start + 4) != tag::CRDC_SAMPLES {
         return refuse_packet(refusal::INNER, start + 4);
     }
-    store_packet(rows, count, 0x5840, id);
+    store_packet(rows, count, tag::CRDC, id);
     store_datum(rows, count + 1, kind::THRESHOLD, word(words, start + 5));
     read_crdc(words, start, size, rows, count + 2)
 }
@@ -103,7 +104,7 @@ fn read_anode(words: &[u16], at: usize, rows: &mut [u32], count: usize) -> Answe
     if word(words, at) != 4 {
         return refuse(refusal::INNER, at);
     }
-    if word(words, at + 1) != 0x5845 {
+    if word(words, at + 1) != tag::CRDC_ANODE {
         return refuse(refusal::INNER, at + 1);
     }
     let row = Row {
