@@ -24,12 +24,12 @@ fn is_opaque(tag: u32) -> bool
     ensures { λ r. ⌜ r ≡ opaqueTag tag ⌝ }
 {
     match tag {
-        tag::FOCAL_PLANE_TIME => true,
-        tag::INTERMEDIATE_CRDC => true,
-        tag::TARGET_PIN => true,
-        tag::INTERMEDIATE_TRACK => true,
-        tag::INTERMEDIATE_PPAC => true,
-        tag::OBJECT_SCINTILLATOR => true,
+        tag::FOCAL_PLANE_TIME
+        | tag::INTERMEDIATE_CRDC
+        | tag::TARGET_PIN
+        | tag::INTERMEDIATE_TRACK
+        | tag::INTERMEDIATE_PPAC
+        | tag::OBJECT_SCINTILLATOR => true,
         _ => false,
     }
 }

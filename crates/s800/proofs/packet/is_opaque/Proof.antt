@@ -1,22 +1,27 @@
 -- `packet::is_opaque` meets its contract. Assumes nothing.
+use mathlib.Core.Logic.{⊎-elim, inl, inr}
 use borrow.Author.Tests.{ne-eqb}
 use Rattle.s800.specs.Opening.{opaqueTag}
 use Rattle.s800.proofs.packet.is_opaque.Statement.{statement}
 use Rattle.s800.proofs.packet.is_opaque.Tie as tie
 
-returns-7 : tie.Need-returns-7
+returns : tie.Need-returns
 unfolding opaqueTag
-returns-7 c = rw (ne-eqb _ _ (c .match .rest .0 .0 .0 .0 .0 .1), ne-eqb _ _ (c .match .rest .0 .0 .0 .0 .1), ne-eqb _ _ (c .match .rest .0 .0 .0 .1), ne-eqb _ _ (c .match .rest .0 .0 .1), ne-eqb _ _ (c .match .rest .0 .1), ne-eqb _ _ (c .match .rest .1))
+returns c =
+    ⊎-elim (λ e. rw e) (⊎-elim (λ e. rw e) (⊎-elim (λ e. rw e) (⊎-elim (λ e. rw e) (⊎-elim (λ e. rw e) (λ e. rw e))))) (c .match .keys1)
+
+returns-2 : tie.Need-returns-2
+unfolding opaqueTag
+returns-2 c =
+    let no = c .match .rest .1 in
+    rw (
+      ne-eqb _ _ (λ e. no (inl e)),
+      ne-eqb _ _ (λ e. no (inr (inl e))),
+      ne-eqb _ _ (λ e. no (inr (inr (inl e)))),
+      ne-eqb _ _ (λ e. no (inr (inr (inr (inl e))))),
+      ne-eqb _ _ (λ e. no (inr (inr (inr (inr (inl e)))))),
+      ne-eqb _ _ (λ e. no (inr (inr (inr (inr (inr e)))))),
+    )
 
 pub is-opaque-spec : {M : Type 1} → statement M
-unfolding opaqueTag
-is-opaque-spec =
-    tie.close
-    (tie.spec
-    (λ c. rw (c .match .keys1))
-    (λ c. rw (c .match .keys2))
-    (λ c. rw (c .match .keys3))
-    (λ c. rw (c .match .keys4))
-    (λ c. rw (c .match .keys5))
-    (λ c. rw (c .match .keys6))
-    returns-7)
+is-opaque-spec = tie.close (tie.spec returns returns-2)
