@@ -19,7 +19,7 @@ pub data Outcome (A : Type 0) : Type 0 where
   done : List A → Outcome A
   refused : (number place : ℕ) → Outcome A
 
--- the outcome of a parser that ran to the end
+-- the outcome of a parser that stops only at the end of its input, so that nothing is left
 abbrev pub outcome : {E A B : Type 0} → (A → Outcome B) → Result E A → Outcome B
 outcome f (ok a j r) = f a
 outcome f (refuse n k) = refused n k

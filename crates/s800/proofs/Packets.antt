@@ -13,14 +13,14 @@ use Rattle.event.specs.Parser.{Result, ok, refuse, then, give, ended, filled, m
 use Rattle.event.proofs.Leads.{leads-trans}
 use Rattle.event.proofs.Loops.{leads-filled}
 use Rattle.event.proofs.Impossible.{impossible}
-use Rattle.s800_layout.specs.Event.{Opaque, focalPlaneTime, intermediateCrdc, targetPin, intermediateTrack, intermediatePpac, objectScintillator, Form, opaque, Content, Packet, tag, formOf}
+use Rattle.s800_layout.specs.Event.{Opaque, focalPlaneTime, intermediateCrdc, targetPin, intermediateTrack, intermediatePpac, objectScintillator, Form, opaque, opaques, Content, Packet, tag, formOf}
 use Rattle.s800_layout.specs.Layout.{packetRows}
 use Rattle.s800_layout.specs.Reading.{allowedLength, content, packetContent, formWord, packet}
 use Rattle.s800_layout.proofs.Lengths.{form-back}
 use Rattle.s800_layout.proofs.Refusals.{content-ends}
 use Rattle.s800.specs.declared.Opened.{Opened}
 use Rattle.s800.specs.declared.Opened.the-variants.{Channels, Refused}
-use Rattle.s800.specs.Opening.{opaques, opaqueTag, restOf, OpensAs, OpensPacket}
+use Rattle.s800.specs.Opening.{opaqueTag, restOf, OpensAs, OpensPacket}
 use Rattle.s800.proofs.Extent.{too-short, too-long, body}
 
 -- one of the numbers that f gives

@@ -12,7 +12,7 @@ use Rattle.event.specs.declared.Row.{Row}
 use Rattle.event.specs.Parser.{Result, refuse, _>>_, require, each, member}
 use Rattle.event.specs.Rows.{row}
 use Rattle.event.specs.Scanning.{Leads}
-use Rattle.s800_layout.specs.Event.{Opaque, focalPlaneTime, intermediateCrdc, targetPin, intermediateTrack, intermediatePpac, objectScintillator, Form, crdc, opaque, Packet, samplesTag, tag}
+use Rattle.s800_layout.specs.Event.{Form, crdc, opaque, opaques, Packet, samplesTag, tag}
 use Rattle.s800_layout.specs.Layout.{packetRows}
 use Rattle.s800_layout.specs.Reading.{allowedLength, channelWords, packetContent, packet}
 use Rattle.s800.specs.declared.Format.{Format}
@@ -21,9 +21,6 @@ use Rattle.s800.specs.declared.Opened.the-variants.{Channels, Refused}
 use Rattle.s800.specs.Channel.{formatOf, channelRows, energiesFormat}
 
 -- the tags of packets whose words stay opaque
-abbrev pub opaques : List Opaque
-opaques = focalPlaneTime ∷ intermediateCrdc ∷ targetPin ∷ intermediateTrack ∷ intermediatePpac ∷ objectScintillator ∷ []
-
 unfoldable pub opaqueTag : ℕ → Bool
 opaqueTag t = member t (map (λ k. tag (opaque k)) opaques)
 

@@ -5,3 +5,4 @@ pub mod Reading
 pub mod Width
 pub mod Edges
 pub mod Refusals
+pub mod Rooms

@@ -2,7 +2,7 @@
 -- Assumes nothing.
 use Prim.Native.Nat.{ℕ, zero, suc, _^_}
 use mathlib.Core.Bool.{cond}
-use mathlib.Core.List.{List, [], _∷_, _++_}
+use mathlib.Core.List.{List, [], _∷_, _++_, map}
 use lib.Dec.{eqb}
 
 -- one time or energy of a channel
@@ -86,7 +86,7 @@ pub record Packet : Type 0 where
   pub form : Form
   pub content : Content form
 
--- a run of packets
+-- a run of packets; a list of its own, so that a packet may come to hold a run
 pub data Run : Type 0 where
   end : Run
   plain : Packet → Run → Run
@@ -148,11 +148,11 @@ tag (opaque intermediateTrack) = 0x5870
 tag (opaque intermediatePpac) = 0x5880
 tag (opaque objectScintillator) = 0x5890
 
+abbrev pub opaques : List Opaque
+opaques = focalPlaneTime ∷ intermediateCrdc ∷ targetPin ∷ intermediateTrack ∷ intermediatePpac ∷ objectScintillator ∷ []
+
 abbrev pub forms : List Form
-forms =
-    trigger ∷ timeOfFlight ∷ scintillator ∷ ionChamber ∷ crdc ∷ hodoscope ∷ objectPin ∷ vmeAdc ∷
-    opaque focalPlaneTime ∷ opaque intermediateCrdc ∷ opaque targetPin ∷ opaque intermediateTrack ∷
-    opaque intermediatePpac ∷ opaque objectScintillator ∷ []
+forms = trigger ∷ timeOfFlight ∷ scintillator ∷ ionChamber ∷ crdc ∷ hodoscope ∷ objectPin ∷ vmeAdc ∷ map opaque opaques
 
 -- the form of a tag; where no form has it, one whose own tag is another
 abbrev pub lookUp : List Form → ℕ → Form
@@ -162,14 +162,18 @@ lookUp (f ∷ fs) t = cond (eqb t (tag f)) f (lookUp fs t)
 abbrev pub formOf : ℕ → Form
 formOf t = lookUp forms t
 
--- the largest id; 0 also where the packet has none
+-- the id of a hodoscope's hits; those of its energies are below
+abbrev pub hitsId : ℕ
+hitsId = 2
+
+-- the largest id; 0 also where the packet has none (the channel of its own row)
 abbrev pub largestId : Form → ℕ
 largestId trigger = 0
 largestId timeOfFlight = 0
 largestId scintillator = 0
 largestId ionChamber = 0
 largestId crdc = 1
-largestId hodoscope = 2
+largestId hodoscope = hitsId
 largestId objectPin = 0
 largestId vmeAdc = 3
 largestId (opaque k) = 0
@@ -181,7 +185,7 @@ idOf scintillator c = 0
 idOf ionChamber c = 0
 idOf crdc c = c .id
 idOf hodoscope (energies id xs) = id
-idOf hodoscope (hits h) = 2
+idOf hodoscope (hits h) = hitsId
 idOf objectPin c = 0
 idOf vmeAdc c = c .id
 idOf (opaque k) c = 0

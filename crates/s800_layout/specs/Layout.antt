@@ -10,7 +10,7 @@ use Rattle.event.specs.declared.StampOrder.the-variants.{Crossed, Rising}
 use Rattle.event.specs.Parser.{Test, test, Passed, Goods, All, each, fresh, member}
 use Rattle.event.specs.Words.{belowChecks}
 use Rattle.event.specs.Rows.{row}
-use Rattle.s800_layout.specs.Event.{Datum, Pair, SampleHead, SampleDatum, Sample, Samples, Anode, Registers, energies, hits, Form, trigger, timeOfFlight, scintillator, ionChamber, crdc, hodoscope, objectPin, vmeAdc, opaque, Content, Packet, Run, end, plain, Stamp, Number, Event, eventTag, stampTag, numberTag, energiesTag, samplesTag, anodeTag, tag, largestId, idOf, patternBound, ChannelFormat, triggerTime, flightTime, pairEnergy, energy16, adcEnergy}
+use Rattle.s800_layout.specs.Event.{Datum, Pair, SampleHead, SampleDatum, Sample, Samples, Anode, Registers, energies, hits, Form, trigger, timeOfFlight, scintillator, ionChamber, crdc, hodoscope, objectPin, vmeAdc, opaque, Content, Packet, Run, end, plain, Stamp, Number, Event, eventTag, stampTag, numberTag, energiesTag, samplesTag, anodeTag, tag, hitsId, largestId, idOf, patternBound, ChannelFormat, triggerTime, flightTime, pairEnergy, energy16, adcEnergy}
 
 -- Words.
 
@@ -55,7 +55,7 @@ contentWords scintillator xs = each pairWords xs
 contentWords ionChamber xs = framed energiesTag (map (datumWord energy16) xs)
 contentWords crdc c = c .id ∷ (framed samplesTag (samplesWords (c .samples)) ++ framed anodeTag (anodeWords (c .anode)))
 contentWords hodoscope (energies id xs) = id ∷ map (datumWord energy16) xs
-contentWords hodoscope (hits h) = 2 ∷ registerWords h
+contentWords hodoscope (hits h) = hitsId ∷ registerWords h
 contentWords objectPin d = datumWord energy16 d ∷ []
 contentWords vmeAdc c = c .id ∷ map (datumWord adcEnergy) (c .energies)
 contentWords (opaque k) ws = ws
@@ -195,7 +195,7 @@ ValidContent ionChamber xs = ValidData energy16 xs
 ValidContent crdc c =
     Passed (idChecks 0 crdc (c .id)) × Passed (belowChecks 0 (2 ^ 16) (c .samples .threshold)) ×
     All (λ s. Passed (sampleChecks 0 s)) (c .samples .samples) × Passed (anodeChecks 0 (c .anode))
-ValidContent hodoscope (energies id xs) = T (ltb id 2) × ValidData energy16 xs
+ValidContent hodoscope (energies id xs) = T (ltb id hitsId) × ValidData energy16 xs
 ValidContent hodoscope (hits h) = Passed (registerChecks 0 h)
 ValidContent objectPin d = ValidDatum energy16 [] d
 ValidContent vmeAdc c = Passed (idChecks 0 vmeAdc (c .id)) × ValidData adcEnergy (c .energies)

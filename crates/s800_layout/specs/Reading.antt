@@ -1,5 +1,6 @@
 -- Reading one event of dialect S: its rows, or the first refusal and its place. Each line is a rule, in the order of document 01.
--- (A test that a word is below 2 ^ 16 never fails on 16-bit words.)
+-- (On 16-bit words some tests never fail, and stand here because the same tables serve `Valid`: that a word is below 2 ^ 16, that a field is as
+-- wide as its bits, that a word with fields in all its bits is the one they print; that an inner packet of the right length fits.)
 -- Assumes nothing.
 use Prim.Native.Nat.{ℕ, _-_, _/_, _%_, _^_}
 use mathlib.Core.Bool.{Bool, cond, _&&_}
@@ -11,7 +12,7 @@ use Rattle.event.specs.declared.StampOrder.{StampOrder}
 use Rattle.event.specs.Parser.{Parser, ended, _>>=_, _>>_, give, here, require, within, many, several}
 use Rattle.event.specs.Words.{layout, exactly, anyWord, belowChecks, wordBelow}
 use Rattle.event.specs.Outcome.{Outcome, done, outcome, limited}
-use Rattle.s800_layout.specs.Event.{Datum, Pair, SampleHead, SampleDatum, Sample, Samples, Anode, Registers, Hodoscope, energies, hits, Form, trigger, timeOfFlight, scintillator, ionChamber, crdc, hodoscope, objectPin, vmeAdc, opaque, Content, Packet, Run, runOf, Stamp, Number, Event, eventTag, stampTag, numberTag, energiesTag, samplesTag, anodeTag, tag, formOf, patternBound, ChannelFormat, triggerTime, flightTime, pairEnergy, energy16, adcEnergy}
+use Rattle.s800_layout.specs.Event.{Datum, Pair, SampleHead, SampleDatum, Sample, Samples, Anode, Registers, Hodoscope, energies, hits, Form, trigger, timeOfFlight, scintillator, ionChamber, crdc, hodoscope, objectPin, vmeAdc, opaque, Content, Packet, Run, runOf, Stamp, Number, Event, eventTag, stampTag, numberTag, energiesTag, samplesTag, anodeTag, tag, formOf, hitsId, patternBound, ChannelFormat, triggerTime, flightTime, pairEnergy, energy16, adcEnergy}
 use Rattle.s800_layout.specs.Layout.{channelWord, datumWord, sampleHeadWord, sampleDatumWord, version, rows, smallestEvent, largestEvent, idChecks, datumChecks, sampleHeadChecks, sampleDatumChecks, channels, pairChannels}
 
 abbrev pub between : ℕ → ℕ → ℕ → Bool
@@ -110,7 +111,7 @@ registers = do
   t ← whole
   give (record { a = a; b = b; time = t })
 
--- 7 again: a hodoscope with id 2 has length 6
+-- 7 again: a hodoscope with id 2, the hits, has length 6
 abbrev pub hitsContent : (p n : ℕ) → Parser ℕ Hodoscope
 hitsContent p n = do
   require (eqb n 6) 7 p
@@ -138,7 +139,7 @@ content crdc p n = do
   give (record { id = id; samples = s; anode = a })
 content hodoscope p n = do
   id ← idWord hodoscope
-  cond (eqb id 2) (hitsContent p n) (energiesContent id)
+  cond (eqb id hitsId) (hitsContent p n) (energiesContent id)
 content objectPin p n = datum energy16 []
 content vmeAdc p n = do
   id ← idWord vmeAdc

@@ -1,0 +1,70 @@
+-- Readings of dialect S into buffers at the edges of their room, computed: refusal 12, and what the buffer holds afterwards. The expected answers are document 01's.
+-- Assumes nothing.
+use Prim.Native.Nat.{ℕ}
+use mathlib.Core.Path.{_≡_, refl}
+use mathlib.Core.List.{List, [], _∷_, _++_, map}
+use lib.ListN.{length, replicate}
+use Rattle.event.specs.declared.Answer.{Answer}
+use Rattle.event.specs.declared.Answer.the-variants.{Accepted, Refused}
+use Rattle.event.specs.declared.StampOrder.the-variants.{Crossed}
+use Rattle.event.specs.Outcome.{answerOf, given, overlaid}
+use Rattle.event.specs.Rows.{flat, room}
+use Rattle.s800_layout.specs.Reading.{readingInto}
+
+-- what comes in, and what stands afterwards
+pub record Lent : Type 0 where
+  pub words : List ℕ
+  pub buffer : List ℕ
+
+pub record Left : Type 0 where
+  pub answer : Answer
+  pub buffer : List ℕ
+
+abbrev read : Lent → Left
+read l = record {
+  answer = answerOf (readingInto (room (length (l .buffer))) Crossed (l .words));
+  buffer = overlaid (flat (given (readingInto (room (length (l .buffer))) Crossed (l .words)))) (l .buffer);
+}
+
+-- document 01's M, and M with a trigger packet whose time has channel 7, which is refused at 17
+abbrev m : List ℕ
+m = 0x000e ∷ 0x5800 ∷ 0x0005 ∷ 0x0006 ∷ 0x5803 ∷ 0x1234 ∷ 0x0000 ∷ 0x0001 ∷ 0x0000 ∷ 0x0005 ∷ 0x5804 ∷ 0x0007 ∷ 0x0000 ∷ 0x0000 ∷ []
+
+abbrev bad : List ℕ
+bad = 0x0012 ∷ 0x5800 ∷ 0x0005 ∷ 0x0006 ∷ 0x5803 ∷ 0x1234 ∷ 0x0000 ∷ 0x0001 ∷ 0x0000 ∷ 0x0005 ∷ 0x5804 ∷ 0x0007 ∷ 0x0000 ∷ 0x0000 ∷ 0x0004 ∷ 0x5801 ∷ 0x0000 ∷ 0x7064 ∷ []
+
+-- the elements of M's rows
+abbrev elements : List ℕ
+elements = 1 ∷ 0x5803 ∷ 0 ∷ 0 ∷ 2 ∷ 0 ∷ 0 ∷ 0x00011234 ∷ 1 ∷ 0x5804 ∷ 0 ∷ 0 ∷ 3 ∷ 0 ∷ 0 ∷ 7 ∷ []
+
+-- a buffer of n elements
+abbrev nines : ℕ → List ℕ
+nines n = replicate n 9
+
+pub record Case : Type 0 where
+  pub lent : Lent
+  pub left : Left
+
+abbrev case : List ℕ → List ℕ → Answer → List ℕ → Case
+case ws b a after = record { lent = record { words = ws; buffer = b }; left = record { answer = a; buffer = after } }
+
+abbrev cases : List Case
+cases =
+    -- 12, place the rows needed, the buffer as it was
+    case m [] (Refused 12 4) []
+    ∷ case m (nines 3) (Refused 12 4) (nines 3)
+    ∷ case m (nines 4) (Refused 12 4) (nines 4)
+    ∷ case m (nines 15) (Refused 12 4) (nines 15)
+    -- room: only the elements of the rows given are written
+    ∷ case m (nines 16) (Accepted 4) elements
+    ∷ case m (nines 17) (Accepted 4) (elements ++ nines 1)
+    ∷ case m (nines 19) (Accepted 4) (elements ++ nines 3)
+    ∷ case m (nines 40) (Accepted 4) (elements ++ nines 24)
+    -- 12 comes last, and no refusal writes
+    ∷ case bad [] (Refused 10 17) []
+    ∷ case bad (nines 15) (Refused 10 17) (nines 15)
+    ∷ case bad (nines 40) (Refused 10 17) (nines 40)
+    ∷ []
+
+pub rooms : map (λ (c : Case). read (c .lent)) cases ≡ map (λ (c : Case). c .left) cases
+rooms = refl
