@@ -41,11 +41,7 @@ pub map-self : (xs : List ℕ) → map (λ (x : ℕ). x) xs ≡ xs
 map-self [] = refl
 map-self (x ∷ xs) = ap (x ∷_) (map-self xs)
 
-pub goods-any : {St A : Type 0} (next : St → A → St) (st : St) (xs : List A) → Goods (λ t a. Unit {0}) next st xs
-goods-any next st [] = tt
-goods-any next st (x ∷ xs) = (tt, goods-any next (next st x) xs)
-
-pub goods-all : {A : Type 0} (Good : A → Type 0) (xs : List A) → Goods (λ u. Good) alone tt xs → All Good xs
+goods-all : {A : Type 0} (Good : A → Type 0) (xs : List A) → Goods (λ u. Good) alone tt xs → All Good xs
 goods-all Good [] g = tt
 goods-all Good (x ∷ xs) g = (g .0, goods-all Good xs (g .1))
 

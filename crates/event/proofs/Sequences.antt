@@ -11,7 +11,7 @@ use Rattle.event.proofs.Impossible.{impossible}
 
 module _ {E A B : Type 0} where
   -- one parser after another: `part b` is the value of the first that b was made from, `Rest₁` what may follow it
-  pub codes-bind-at : {Rest₁ Rest : List E → Type 0} {p : Parser E A} {q : A → Parser E B} {print : A → List E} {Good : A → Type 0}
+  codes-bind-at : {Rest₁ Rest : List E → Type 0} {p : Parser E A} {q : A → Parser E B} {print : A → List E} {Good : A → Type 0}
       {print′ : A → B → List E} {Good′ : A → B → Type 0} (part : B → A) → Codes Rest₁ p print Good
       → ((a : A) → Good a → Codes Rest (q a) (print′ a) (Good′ a)) → ((a : A) (b : B) → Good′ a b → part b ≡ a)
       → ((b : B) → Good′ (part b) b → (r : List E) → Rest r → Rest₁ (print′ (part b) b ++ r))

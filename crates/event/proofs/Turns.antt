@@ -17,7 +17,7 @@ use Rattle.event.proofs.Many.{many-step}
 
 module _ {E St A : Type 0} {item : St → Parser E A} {print : St → A → List E} {Good : St → A → Type 0} (next : St → A → St)
     (c : (st : St) → Codes any (item st) (print st) (Good st)) (on : (st : St) (a : A) → Good st a → (r : List E) → ended (print st a ++ r) ≡ false) where
-  pub turn-refused : (st : St) (i : ℕ) (s : List E) {n p : ℕ} → ended s ≡ false → item st i s ≡ refuse n p → many item next ended st i s ≡ refuse n p
+  turn-refused : (st : St) (i : ℕ) (s : List E) {n p : ℕ} → ended s ≡ false → item st i s ≡ refuse n p → many item next ended st i s ≡ refuse n p
   turn-refused st i s e h = rw (many-step next c (λ st a g r. tt) ended (λ r t. tt) on refl st i s e, h)
 
   pub turn : (f : A → List Row) (st : St) (i : ℕ) (s : List E) {a : A} {j : ℕ} {r : List E} (k : ℕ) (b : List ℕ) → ended s ≡ false → item st i s ≡ ok a j r

@@ -1,7 +1,6 @@
 -- Whole inputs: a parser that runs to the end and codes a printer accepts exactly what is printed. Rows in a buffer.
 -- Assumes nothing.
 use Prim.Native.Nat.{ℕ, _≤_}
-use native.Mathlib.Omega.{arith}
 use mathlib.Core.Path.{_≡_, refl, sym, _∙_, subst}
 use mathlib.Core.Logic.{_↔_}
 use mathlib.Core.Bool.{Bool, true, false, cond}

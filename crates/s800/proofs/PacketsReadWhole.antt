@@ -35,7 +35,7 @@ use Rattle.s800.proofs.ChannelPackets.{first-word}
 use Rattle.s800.proofs.Opening.{opens-refused, opens-complete}
 
 -- a packet whose content was scanned whole, or refused
-pub opens-answer : (f : Form) {ws : List ℕ} {start n k : ℕ} {b after : List ℕ} (a : Answer) {r : Opened} → Scanned packetRows (restOf f ws start n) k b a after
+opens-answer : (f : Form) {ws : List ℕ} {start n k : ℕ} {b after : List ℕ} (a : Answer) {r : Opened} → Scanned packetRows (restOf f ws start n) k b a after
     → NoMore (start + n) a → r ≡ openedOf (start + n) a → OpensAs f ws start n k b after r
 opens-answer f (Accepted k′) s few e = opens-complete f s few e
 opens-answer f {ws} {start} {n} (Refused m p) s few e = opens-refused f e (refused-scan packetRows (restOf f ws start n) s)

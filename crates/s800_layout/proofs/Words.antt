@@ -174,7 +174,7 @@ codes-hodoscope p n = same
 free : {A : Type 0} {p : Parser ℕ A} {print : A → List ℕ} {Good : A → Type 0} → Codes (At ended) p print Good → Codes (At ended) p print (λ a. Good a × Unit {0})
 free c = same c (λ a g. (g, tt)) (λ a g. g .0) (λ a g. refl)
 
-pub codes-content : (f : Form) (p n : ℕ) → Codes (At ended) (content f p n) (contentWords f) (λ c. ValidContent f c × Fits f n c)
+codes-content : (f : Form) (p n : ℕ) → Codes (At ended) (content f p n) (contentWords f) (λ c. ValidContent f c × Fits f n c)
 codes-content trigger p n = free (same
     (codes-bind (λ c. c .pattern) (codes-below 10 patternBound) (λ w g. codes-map _ (λ c. c .times) (codes-channels triggerTime) (λ xs. refl)) (λ w c g. ap (λ (y : Trigger). y .pattern) (g .1)))
     (λ c g. (g .0, g .1 .0)) (λ c g. (g .0, (g .1, refl))) (λ c g. refl))
