@@ -9,7 +9,7 @@ use lib.Dec.{T, leb}
 use lib.ListN.{length, take, drop, length-append, length-take, take-append-drop}
 use lib.Seq.{take-at, drop-at}
 use borrow.Author.Tests.{leb-true, le-leb}
-use Rattle.event.specs.Parser.{Result, ok, refuse, Parser, Test, Passed, ended, _>>=_, here, require, judge, element, filled, within}
+use Rattle.event.specs.Parser.{Result, ok, refuse, Parser, Test, Passed, ended, _>>=_, give, here, require, judge, element, filled, within}
 use Rattle.event.proofs.Impossible.{impossible}
 
 -- A success leaves a good value, printed in front of the rest, and the place is as many elements on;
@@ -58,6 +58,9 @@ module _ {E A : Type 0} where
   pub less : {Rest Rest′ : List E → Type 0} {p : Parser E A} {print : A → List E} {Good : A → Type 0} → Codes Rest p print Good
       → ((r : List E) → Rest′ r → Rest r) → Codes Rest′ p print Good
   less c f = record { sound = c .sound; complete = λ a g i r rr. c .complete a g i r (f r rr) }
+
+  pub codes-give : (a : A) → Codes {E = E} any (give a) (λ b. []) (λ b. b ≡ a)
+  codes-give a = record { sound = λ i s b j r e. let p : i ≡ j = cc in (cc, cc, omega arith); complete = λ b g i r rr. (i, cc) }
 
   pub codes-here : {Rest : List E → Type 0} {p : ℕ → Parser E A} {print : A → List E} {Good : A → Type 0} → ((k : ℕ) → Codes Rest (p k) print Good) → Codes Rest (here >>= p) print Good
   codes-here c = record { sound = λ i. c i .sound i; complete = λ a g i. c i .complete a g i }

@@ -13,3 +13,4 @@ pub mod ChannelLaws
 pub mod Stores
 pub mod Loops
 pub mod Refusals
+pub mod RowCodes

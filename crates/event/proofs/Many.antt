@@ -7,7 +7,7 @@ use mathlib.Core.Bool.{Bool, true, false, cond}
 use mathlib.Core.List.{List, [], _∷_, _++_, append-assoc}
 use lib.Dec.{T}
 use lib.ListN.{length, length-append}
-use Rattle.event.specs.Parser.{Result, ok, refuse, Parser, then, _>>=_, give, upTo, many, prints, Goods}
+use Rattle.event.specs.Parser.{Result, ok, refuse, Parser, then, _>>=_, give, times, upTo, many, prints, Goods}
 use Rattle.event.proofs.Codes.{Codes, any, At, T-true}
 use Rattle.event.proofs.Impossible.{impossible}
 
@@ -55,6 +55,26 @@ module _ {E St A : Type 0} {Rest : List E → Type 0} {item : St → Parser E A}
       let h = c st .complete a g i (prints print next (next st a) xs ++ r) (follow (next st a) xs gs r rr) in
       let k = ih (h .0) in
       (k .0, rw (append-assoc, h .1, k .1))
+
+  times-sound : (n : ℕ) (st : St) (i : ℕ) (s : List E) (ys : List A) (j : ℕ) (r : List E) → times item next n st i s ≡ ok ys j r
+      → ((length ys ≡ n) × Goods Good next st ys) × (s ≡ prints print next st ys ++ r) × (j ≡ i + length (prints print next st ys))
+  times-sound zero st i s ys j r e = let h : ys ≡ [] = cc in let p : i ≡ j = cc in rw h ((refl, tt), cc, omega arith)
+  times-sound (suc n) st i s ys j r e =
+      let h = cons-inv (item st i s) (λ a. times item next n (next st a)) ys j r e in
+      let ih = times-sound n (next st h.head) h.at h.input h.tail j r h.others in
+      let k = cons-sound st i s _ ys j r h (ih .0 .1) (ih .1) (ih .2) in
+      ((ap length h.made ∙ ap suc (ih .0 .0), k .0), k .1, k .2)
+
+  times-complete : (n : ℕ) (st : St) (xs : List A) → (length xs ≡ n) × Goods Good next st xs → (i : ℕ) (r : List E) → Rest r
+      → (j : ℕ) × (times item next n st i (prints print next st xs ++ r) ≡ ok xs j r)
+  times-complete zero st [] g i r rr = (i, refl)
+  times-complete zero st (x ∷ xs) g i r rr = absurd (omega arith)
+  times-complete (suc n) st [] g i r rr = absurd (omega arith)
+  times-complete (suc n) st (x ∷ xs) g i r rr =
+      cons-complete st x xs (λ a. times item next n (next st a)) (g .1 .0) (g .1 .1) i r rr (λ k. times-complete n (next st x) xs (omega arith, g .1 .1) k r rr)
+
+  codes-times-at : (n : ℕ) (st : St) → Codes Rest (times item next n st) (prints print next st) (λ xs. (length xs ≡ n) × Goods Good next st xs)
+  codes-times-at n st = record { sound = times-sound n st; complete = times-complete n st }
 
   module _ (stop : List E → Bool) where
     stopped : (st : St) (i : ℕ) (s : List E) (ys : List A) (j : ℕ) (r : List E) → stop s ≡ true → _≡_ {A = Result E (List A)} (ok [] i s) (ok ys j r)
@@ -143,6 +163,9 @@ module _ {E St A : Type 0} {Rest : List E → Type 0} {item : St → Parser E A}
 -- items after which anything may follow
 module _ {E St A : Type 0} {item : St → Parser E A} {print : St → A → List E} {Good : St → A → Type 0} (next : St → A → St)
     (c : (st : St) → Codes any (item st) (print st) (Good st)) where
+  pub codes-times : (n : ℕ) (st : St) → Codes any (times item next n st) (prints print next st) (λ xs. (length xs ≡ n) × Goods Good next st xs)
+  codes-times = codes-times-at next c (λ st a g r. tt)
+
   pub codes-many : (stop : List E → Bool) → ((st : St) (a : A) → Good st a → (r : List E) → stop (print st a ++ r) ≡ false) → stop [] ≡ true
       → (st : St) → Codes (At stop) (many item next stop st) (prints print next st) (Goods Good next st)
   codes-many stop = codes-many-at next c (λ st a g r. tt) stop (λ r t. tt)

@@ -3,15 +3,17 @@
 use Prim.Native.Nat.{ℕ, _+_}
 use native.Mathlib.Omega.{arith}
 use mathlib.Core.Path.{_≡_, refl, ap, sym, _∙_}
+use mathlib.Core.Bool.{Bool, true, false, cond}
 use mathlib.Core.List.{List, _++_, append-assoc}
+use mathlib.Core.Option.{Option, some, none}
 use lib.ListN.{length, length-append}
-use Rattle.event.specs.Parser.{Result, ok, refuse, Parser, then, _>>=_, give}
+use Rattle.event.specs.Parser.{Result, ok, refuse, Parser, then, _>>=_, give, optionally, ifAny, IfAny}
 use Rattle.event.proofs.Codes.{Codes, any}
 use Rattle.event.proofs.Impossible.{impossible}
 
 module _ {E A B : Type 0} where
   -- one parser after another: `part b` is the value of the first that b was made from, `Rest₁` what may follow it
-  codes-bind-at : {Rest₁ Rest : List E → Type 0} {p : Parser E A} {q : A → Parser E B} {print : A → List E} {Good : A → Type 0}
+  pub codes-bind-at : {Rest₁ Rest : List E → Type 0} {p : Parser E A} {q : A → Parser E B} {print : A → List E} {Good : A → Type 0}
       {print′ : A → B → List E} {Good′ : A → B → Type 0} (part : B → A) → Codes Rest₁ p print Good
       → ((a : A) → Good a → Codes Rest (q a) (print′ a) (Good′ a)) → ((a : A) (b : B) → Good′ a b → part b ≡ a)
       → ((b : B) → Good′ (part b) b → (r : List E) → Rest r → Rest₁ (print′ (part b) b ++ r))
@@ -85,3 +87,23 @@ module _ {E A B : Type 0} where
           let h = c .complete (g .0) (g .1) i r rr in
           let w : print′ b ≡ print (g .0) = ap print′ (g .2) ∙ sym (eq (g .0)) in
           (h .0, rw (w, h .1) (ap (λ (x : B). ok x (h .0) r) (sym (g .2))))
+
+-- a part that may be absent: the input looks like it where it is printed, and elsewhere must not
+pub codes-optionally : {E A : Type 0} {p : Parser E A} {print : A → List E} {Good : A → Type 0} (looks : List E → Bool) → Codes any p print Good
+    → ((a : A) → Good a → (r : List E) → looks (print a ++ r) ≡ true) → Codes (λ r. looks r ≡ false) (optionally looks p) (ifAny print) (IfAny Good)
+codes-optionally {E} {A} {p} {print} {Good} looks c at = record { sound = λ i s o j r. choice i s o j r (looks s); complete = cmp }
+  where
+    made : Codes any (p >>= λ a. give (some a)) (ifAny print) (λ o. (a : A) × Good a × (o ≡ some a))
+    made = codes-image some (ifAny print) c (λ a. refl)
+
+    choice : (i : ℕ) (s : List E) (o : Option A) (j : ℕ) (r : List E) (b : Bool) → cond b ((p >>= λ a. give (some a)) i s) (ok none i s) ≡ ok o j r
+        → IfAny Good o × (s ≡ ifAny print o ++ r) × (j ≡ i + length (ifAny print o))
+    choice i s o j r true e = let h = made .sound i s o j r e in (rw (h .0 .2) (h .0 .1), h .1, h .2)
+    choice i s o j r false e =
+        let n : o ≡ none = cc in
+        let k : i ≡ j = cc in
+        rw n (tt, cc, omega arith)
+
+    cmp : (o : Option A) → IfAny Good o → (i : ℕ) (r : List E) → looks r ≡ false → (j : ℕ) × (optionally looks p i (ifAny print o ++ r) ≡ ok o j r)
+    cmp none g i r l = (i, rw l)
+    cmp (some a) g i r l = rw (at a g r) (made .complete (some a) (a, g, refl) i r tt)

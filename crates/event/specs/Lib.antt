@@ -4,4 +4,5 @@ pub mod Words
 pub mod Rows
 pub mod Channels
 pub mod Scanning
+pub mod Writing
 pub mod Demands

@@ -3,6 +3,7 @@
 use Prim.Native.Nat.{ℕ, zero, suc}
 use mathlib.Core.Bool.{Bool, true, false, cond, _&&_, _||_, not}
 use mathlib.Core.List.{List, [], _∷_, _++_}
+use mathlib.Core.Option.{Option, some, none}
 use lib.Dec.{T, leb, eqb}
 use lib.ListN.{length, take, drop}
 
@@ -77,8 +78,17 @@ module _ {E : Type 0} where
   abbrev pub within : {A : Type 0} → ℕ → ℕ → ℕ → Parser E A → Parser E A
   within n k m p i s = cond (leb m (length s)) (filled (drop m s) (p i (take m s))) (refuse n k)
 
+  -- `p` where the input looks like it, else nothing
+  abbrev pub optionally : {A : Type 0} → (List E → Bool) → Parser E A → Parser E (Option A)
+  optionally looks p i s = cond (looks s) ((p >>= λ a. give (some a)) i s) (ok none i s)
+
 -- Items one after another, each under a state that the items before it made.
 module _ {E St A : Type 0} (item : St → Parser E A) (next : St → A → St) where
+  -- n items
+  abbrev pub times : ℕ → St → Parser E (List A)
+  times zero st = give []
+  times (suc n) st = item st >>= λ a. times n (next st a) >>= λ xs. give (a ∷ xs)
+
   -- items up to a stop; the fuel bounds their number, and lasts (by 0: each dialect shows that it does)
   abbrev pub upTo : (List E → Bool) → ℕ → St → Parser E (List A)
   upTo stop zero st i s = cond (stop s) (ok [] i s) (refuse 0 i)
@@ -112,6 +122,15 @@ each f (a ∷ xs) = f a ++ each f xs
 abbrev pub All : {A : Type 0} → (A → Type 0) → List A → Type 0
 All P [] = Unit {0}
 All P (a ∷ xs) = P a × All P xs
+
+-- a part that may be absent
+abbrev pub ifAny : {A E : Type 0} → (A → List E) → Option A → List E
+ifAny f none = []
+ifAny f (some a) = f a
+
+abbrev pub IfAny : {A : Type 0} → (A → Type 0) → Option A → Type 0
+IfAny P none = Unit {0}
+IfAny P (some a) = P a
 
 -- Keys (channels, GEOs): k is none of those seen; k is one of those allowed.
 abbrev pub fresh : ℕ → List ℕ → Bool

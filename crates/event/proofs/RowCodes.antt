@@ -1,0 +1,68 @@
+-- Rows with fields, coded by what their fields print; and rows in a buffer: a writing from elements accepts exactly those of accepted rows.
+-- Assumes nothing.
+use Prim.Native.Nat.{ℕ, _%_}
+use native.Mathlib.Omega.{arith}
+use mathlib.Core.Path.{_≡_, refl, ap}
+use mathlib.Core.Logic.{_↔_}
+use mathlib.Core.Bool.{Bool, true}
+use mathlib.Core.List.{List, [], _∷_}
+use lib.Dec.{T, eqb, eqb→eq, eqb-refl}
+use lib.ListN.{length}
+use borrow.Author.Tests.{eqb-true, eq-eqb}
+use Rattle.event.specs.declared.Row.{Row}
+use Rattle.event.specs.Parser.{Test, Passed}
+use Rattle.event.specs.Outcome.{Outcome, done}
+use Rattle.event.specs.Rows.{flat}
+use Rattle.event.specs.Writing.{sameRow, rowWith, rowsIn, fromElements}
+use Rattle.event.proofs.Codes.{Codes, any, codes-element}
+use Rattle.event.proofs.Elements.{both}
+use Rattle.event.proofs.Whole.{passed}
+
+same-row : (r s : Row) → T (sameRow r s) → r ≡ s
+same-row r s t =
+    let a = both (eqb (r .kind) (s .kind)) _ t in
+    let b = both (eqb (r .unit) (s .unit)) _ (a .1) in
+    let c = both (eqb (r .channel) (s .channel)) _ (b .1) in
+    λ i. record {
+      kind = eqb→eq (r .kind) (s .kind) (a .0) i;
+      unit = eqb→eq (r .unit) (s .unit) (b .0) i;
+      channel = eqb→eq (r .channel) (s .channel) (c .0) i;
+      datum = eqb→eq (r .datum) (s .datum) (c .1) i;
+    }
+
+row-refl : (r : Row) → T (sameRow r r)
+row-refl r =
+    let self : (n : ℕ) → eqb n n ≡ true = λ n. eq-eqb n n refl in
+    rw (self (r .kind), self (r .unit), self (r .channel), self (r .datum)) tt
+
+-- a row: its fields may need their checks to be found again
+pub codes-row : {A : Type 0} (stands : Row → Bool) (fields : Row → A) (print : A → Row) (checks : A → List Test)
+    → ((a : A) → T (stands (print a))) → ((a : A) → Passed (checks a) → fields (print a) ≡ a)
+    → Codes any (rowWith stands fields print checks) (λ a. print a ∷ []) (λ a. Passed (checks a))
+codes-row stands fields print checks may back = codes-element 21 fields _ print (λ a. Passed (checks a))
+    (λ r p. (p .1 .1, same-row r (print (fields r)) (p .1 .0)))
+    (λ a g. (back a g, rw (back a g) (may a, (row-refl (print a), g))))
+
+flat-in : (rs : List Row) → rowsIn (flat rs) ≡ rs
+flat-in [] = refl
+flat-in (r ∷ rs) = ap (r ∷_) (flat-in rs)
+
+fours : (rs : List Row) → length (flat rs) % 4 ≡ 0
+fours [] = refl
+fours (r ∷ rs) = omega (arith, fours rs)
+
+in-flat : (xs : List ℕ) → length xs % 4 ≡ 0 → flat (rowsIn xs) ≡ xs
+in-flat [] e = refl
+in-flat (k ∷ []) e = absurd (omega arith)
+in-flat (k ∷ u ∷ []) e = absurd (omega arith)
+in-flat (k ∷ u ∷ c ∷ []) e = absurd (omega arith)
+in-flat (k ∷ u ∷ c ∷ d ∷ xs) e = ap (λ (l : List ℕ). k ∷ u ∷ c ∷ d ∷ l) (in-flat xs (omega arith))
+
+pub elements-iff : (writingRows : List Row → Outcome ℕ) (xs ws : List ℕ) → (fromElements writingRows xs ≡ done ws) ↔ ((rs : List Row) × (flat rs ≡ xs) × (writingRows rs ≡ done ws))
+elements-iff writingRows xs ws = (to, from)
+  where
+    to : fromElements writingRows xs ≡ done ws → (rs : List Row) × (flat rs ≡ xs) × (writingRows rs ≡ done ws)
+    to e = let a = passed (eqb (length xs % 4) 0) _ 20 0 ws e in (rowsIn xs, in-flat xs (eqb-true (length xs % 4) 0 (a .0)), a .1)
+
+    from : (rs : List Row) × (flat rs ≡ xs) × (writingRows rs ≡ done ws) → fromElements writingRows xs ≡ done ws
+    from o = rw (← o .1, eq-eqb (length (flat (o .0)) % 4) 0 (fours (o .0)), flat-in) (o .2)

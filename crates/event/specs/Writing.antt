@@ -1,0 +1,38 @@
+-- Writing: rows with fields as the input of a parser, rows out of the elements of a buffer, and the refusals of every dialect.
+-- Assumes nothing.
+use Prim.Native.Nat.{ℕ, _%_}
+use mathlib.Core.Bool.{Bool, true, cond, _&&_}
+use mathlib.Core.List.{List, [], _∷_}
+use lib.Dec.{eqb}
+use lib.ListN.{length}
+use Rattle.event.specs.declared.Row.{Row}
+use Rattle.event.specs.Parser.{Parser, Test, test, element}
+use Rattle.event.specs.Rows.{row}
+use Rattle.event.specs.Outcome.{Outcome, refused}
+
+abbrev pub sameRow : Row → Row → Bool
+sameRow r s = eqb (r .kind) (s .kind) && (eqb (r .unit) (s .unit) && (eqb (r .channel) (s .channel) && eqb (r .datum) (s .datum)))
+
+-- a row with fields. 21: the rows end, or it may not stand there. 22: it is not the row that its fields print, or a check of theirs fails.
+abbrev pub rowWith : {A : Type 0} → (Row → Bool) → (Row → A) → (A → Row) → (A → List Test) → Parser Row A
+rowWith stands fields print checks = element 21 fields (λ r. test 21 (stands r) ∷ test 22 (sameRow r (print (fields r))) ∷ checks (fields r))
+
+abbrev pub ofKind : ℕ → Row → Bool
+ofKind k r = eqb k (r .kind)
+
+-- the next row is of kind k, or the rows end
+abbrev pub atKind : ℕ → List Row → Bool
+atKind k [] = true
+atKind k (r ∷ rs) = ofKind k r
+
+-- the rows in a buffer; the last elements, where they are not four, make none
+abbrev pub rowsIn : List ℕ → List Row
+rowsIn [] = []
+rowsIn (k ∷ []) = []
+rowsIn (k ∷ u ∷ []) = []
+rowsIn (k ∷ u ∷ c ∷ []) = []
+rowsIn (k ∷ u ∷ c ∷ d ∷ xs) = row k u c d ∷ rowsIn xs
+
+-- 20: the elements are not a multiple of four
+abbrev pub fromElements : (List Row → Outcome ℕ) → List ℕ → Outcome ℕ
+fromElements writingRows xs = cond (eqb (length xs % 4) 0) (writingRows (rowsIn xs)) (refused 20 0)
