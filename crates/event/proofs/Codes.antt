@@ -3,7 +3,7 @@
 use Prim.Native.Nat.{ℕ, suc, _+_}
 use native.Mathlib.Omega.{arith}
 use mathlib.Core.Path.{_≡_, refl, ap, sym, _∙_}
-use mathlib.Core.Bool.{Bool, true, false, cond}
+use mathlib.Core.Bool.{Bool, true, false, cond, not}
 use mathlib.Core.List.{List, [], _∷_, _++_, append-nil}
 use lib.Dec.{T, leb}
 use lib.ListN.{length, take, drop, length-append, length-take, take-append-drop}
@@ -28,6 +28,10 @@ T-true false t = absurd t
 pub true-T : (b : Bool) → b ≡ true → T b
 true-T true e = tt
 true-T false e = impossible cc
+
+pub not-true : (b : Bool) → T (not b) → b ≡ false
+not-true true t = absurd t
+not-true false t = refl
 
 -- `T (stop r)` as what may follow
 abbrev pub At : {E : Type 0} → (List E → Bool) → List E → Type 0

@@ -14,3 +14,4 @@ pub mod Stores
 pub mod Loops
 pub mod Refusals
 pub mod RowCodes
+pub mod Trips

@@ -1,6 +1,6 @@
 -- Dialect S: the words and the rows of an event, and the rules that a valid one keeps (document 01).
 -- Assumes nothing.
-use Prim.Native.Nat.{ℕ, _+_, _*_, _^_, _≤_}
+use Prim.Native.Nat.{ℕ, _+_, _*_, _^_}
 use mathlib.Core.List.{List, [], _∷_, _++_, map}
 use lib.Dec.{T, ltb, leb}
 use lib.ListN.{length}
@@ -10,6 +10,7 @@ use Rattle.event.specs.declared.StampOrder.the-variants.{Crossed, Rising}
 use Rattle.event.specs.Parser.{Test, test, Passed, Goods, All, each, fresh, member}
 use Rattle.event.specs.Words.{belowChecks}
 use Rattle.event.specs.Rows.{row}
+use Rattle.event.specs.Demands.{Sized}
 use Rattle.s800_layout.specs.Event.{Datum, Pair, SampleHead, SampleDatum, Sample, Samples, Anode, Registers, energies, hits, Form, trigger, timeOfFlight, scintillator, ionChamber, crdc, hodoscope, objectPin, vmeAdc, opaque, Content, Packet, Run, end, plain, Stamp, Number, Event, eventTag, stampTag, numberTag, energiesTag, samplesTag, anodeTag, tag, hitsId, largestId, idOf, patternBound, ChannelFormat, triggerTime, flightTime, pairEnergy, energy16, adcEnergy}
 
 -- Words.
@@ -218,6 +219,5 @@ pub record Formed (e : Event) : Type 0 where
   pub number : Passed (numberChecks 0 (e .number))
   pub run : ValidRun (e .run)
 
-pub record Valid (e : Event) : Type 0 where
-  pub formed : Formed e
-  pub size : length (words e) ≤ largestEvent
+abbrev pub Valid : Event → Type 0
+Valid = Sized Formed words largestEvent

@@ -1,0 +1,5 @@
+pub mod Event
+pub mod Words
+pub mod Rows
+pub mod Reading
+pub mod Writing
