@@ -24,10 +24,10 @@ abbrev pub outcome : {E A B : Type 0} → (A → Outcome B) → Result E A → O
 outcome f (ok a j r) = f a
 outcome f (refuse n k) = refused n k
 
--- 12 and 24: more items than room, place the items needed
+-- 12, 23 and 24: more items than there may be, place the items needed
 abbrev pub limited : {A : Type 0} → ℕ → ℕ → Outcome A → Outcome A
-limited n room (done xs) = cond (leb (length xs) room) (done xs) (refused n (length xs))
-limited n room (refused m k) = refused m k
+limited n most (done xs) = cond (leb (length xs) most) (done xs) (refused n (length xs))
+limited n most (refused m k) = refused m k
 
 -- the items of an outcome; none on refusal
 abbrev pub given : {A : Type 0} → Outcome A → List A

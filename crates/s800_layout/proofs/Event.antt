@@ -1,20 +1,25 @@
--- The parts of an event in their order: a code for each part makes one of the event. Then the words.
+-- The parts of an event in their order: a code for each part makes one of the event. Then the words and the rows.
 -- Assumes nothing.
 use Prim.Native.Nat.{ℕ}
 use mathlib.Core.Path.{_≡_, refl, ap, sym}
 use mathlib.Core.Bool.{Bool, true, false}
 use mathlib.Core.List.{List, [], _∷_, _++_}
-use lib.Dec.{T}
+use lib.Dec.{T, eqb}
+use Rattle.event.specs.declared.Row.{Row}
+use Rattle.event.specs.declared.StampOrder.{StampOrder}
 use Rattle.event.specs.Parser.{Parser, Passed, ended, require, several, alone, All, each}
 use Rattle.event.specs.Words.{exactly}
-use Rattle.event.proofs.Codes.{Codes, any, At, same, codes-require}
+use Rattle.event.specs.Writing.{ofKind}
+use Rattle.event.proofs.Codes.{Codes, any, At, nil, same, codes-require}
 use Rattle.event.proofs.Sequences.{codes-bind, codes-map}
 use Rattle.event.proofs.Ends.{Ends, ends-bind, ends-map, ends-many}
-use Rattle.event.proofs.Elements.{codes-exactly, codes-several-at}
-use Rattle.s800_layout.specs.Event.{Packet, Run, end, plain, runOf, Stamp, Number, Event, eventTag}
-use Rattle.s800_layout.specs.Layout.{packetWords, runWords, version, packetsWords, smallestEvent, largestEvent, stampChecks, numberChecks, ValidContent, ValidRun, Formed}
+use Rattle.event.proofs.Elements.{codes-exactly, both, codes-several-at}
+use Rattle.s800_layout.specs.Event.{focalPlaneTime, intermediateCrdc, targetPin, intermediateTrack, intermediatePpac, objectScintillator, Form, trigger, timeOfFlight, scintillator, ionChamber, crdc, hodoscope, objectPin, vmeAdc, opaque, Packet, Run, end, plain, runOf, Stamp, Number, Event, eventTag, stampTag, tag}
+use Rattle.s800_layout.specs.Layout.{packetWords, runWords, version, packetsWords, packetRows, runRows, rows, smallestEvent, largestEvent, stampChecks, numberChecks, ValidContent, ValidRun, Formed}
 use Rattle.s800_layout.specs.Reading.{between, packet, stampPacket, numberPacket, runUpTo, eventOf, eventParser}
+use Rattle.s800_layout.specs.Writing as Writing
 use Rattle.s800_layout.proofs.Words as Words
+use Rattle.s800_layout.proofs.Rows as Rows
 
 abbrev packetsOf : Run → List Packet
 packetsOf end = []
@@ -79,3 +84,45 @@ codes-words n = same
 pub ends-words : (n : ℕ) → Ends ended (eventParser n)
 ends-words n = ends-bind ended (require (between smallestEvent largestEvent n) 1 0) _ (λ u. ends-bind ended (exactly 2 n) _ (λ u.
     ends-bind ended (exactly 3 eventTag) _ (λ u. ends-bind ended (exactly 4 version) _ (λ u. ends-event stampPacket numberPacket packet ended))))
+
+run-rows : (r : Run) → each packetRows (packetsOf r) ≡ runRows r
+run-rows end = refl
+run-rows (plain q r) = ap (packetRows q ++_) (run-rows r)
+
+-- the stop holds at the end, or where another packet's own row stands, and at no packet of the event
+codes-rows : (o : StampOrder) (stop : List Row → Bool) → ((r : List Row) → T (stop r) → T (Writing.atPacket r))
+    → ((q : Packet) → ValidPacket q → (r : List Row) → stop (packetRows q ++ r) ≡ false) → stop [] ≡ true → Codes (At stop) (Writing.eventRowsParser o stop) (rows o) Formed
+codes-rows o stop last on halt = same
+    (codes-event (Rows.codes-stamp o) Rows.codes-number (codes-runUpTo stop runRows Rows.codes-packet (λ q g r. tt) last on halt run-rows))
+    (λ e g. g) (λ e g. g) (λ e g. refl)
+
+-- one event alone
+pub codes-one : (o : StampOrder) → Codes (At ended) (Writing.eventRowsParser o ended) (rows o) Formed
+codes-one o = codes-rows o ended (λ r t. rw (nil r t) tt) (λ q g r. refl) refl
+
+pub ends-one : (o : StampOrder) → Ends ended (Writing.eventRowsParser o ended)
+ends-one o = ends-event (Writing.stampPacket o) Writing.numberPacket Writing.packet ended
+
+not-stamp : (f : Form) → eqb stampTag (tag f) ≡ false
+not-stamp trigger = refl
+not-stamp timeOfFlight = refl
+not-stamp scintillator = refl
+not-stamp ionChamber = refl
+not-stamp crdc = refl
+not-stamp hodoscope = refl
+not-stamp objectPin = refl
+not-stamp vmeAdc = refl
+not-stamp (opaque focalPlaneTime) = refl
+not-stamp (opaque intermediateCrdc) = refl
+not-stamp (opaque targetPin) = refl
+not-stamp (opaque intermediateTrack) = refl
+not-stamp (opaque intermediatePpac) = refl
+not-stamp (opaque objectScintillator) = refl
+
+-- one event in a run of events
+pub codes-run : (o : StampOrder) → Codes (At Writing.atStamp) (Writing.eventRowsParser o Writing.atStamp) (rows o) Formed
+codes-run o = codes-rows o Writing.atStamp last (λ q g r. not-stamp (q .form)) refl
+  where
+    last : (r : List Row) → T (Writing.atStamp r) → T (Writing.atPacket r)
+    last [] t = tt
+    last (x ∷ r) t = both (ofKind 1 x) _ t .0

@@ -1,7 +1,9 @@
 pub mod Lengths
 pub mod Words
+pub mod Rows
 pub mod Event
 pub mod Reading
+pub mod Writing
 pub mod Width
 pub mod Edges
 pub mod Refusals
