@@ -15,3 +15,4 @@ pub mod Loops
 pub mod Refusals
 pub mod RowCodes
 pub mod Trips
+pub mod WritingRefusals

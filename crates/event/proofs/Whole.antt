@@ -1,13 +1,14 @@
--- Whole inputs: a parser that runs to the end and codes a printer accepts exactly what is printed. Rows in a buffer.
+-- Whole inputs: a parser that runs to the end and codes a printer accepts exactly what is printed; with a limit, exactly what keeps it.
 -- Assumes nothing.
-use Prim.Native.Nat.{ℕ, _≤_}
+use Prim.Native.Nat.{ℕ, _≤_, _<_}
+use native.Mathlib.Omega.{arith}
 use mathlib.Core.Path.{_≡_, refl, sym, _∙_, subst}
-use mathlib.Core.Logic.{_↔_}
+use mathlib.Core.Logic.{_↔_, _⊎_, inl, inr}
 use mathlib.Core.Bool.{Bool, true, false, cond}
 use mathlib.Core.List.{List, [], append-nil}
 use lib.Dec.{leb}
 use lib.ListN.{length}
-use borrow.Author.Tests.{leb-true, le-leb}
+use borrow.Author.Tests.{leb-true, leb-false, le-leb}
 use Rattle.event.specs.Parser.{Result, ok, refuse, Parser, ended}
 use Rattle.event.specs.Outcome.{Outcome, done, refused, outcome, limited}
 use Rattle.event.proofs.Codes.{Codes, At, nil}
@@ -33,18 +34,26 @@ pub passed : {A : Type 0} (b : Bool) (x : Outcome A) (n k : ℕ) (l : List A) �
 passed true x n k l e = (refl, e)
 passed false x n k l e = impossible cc
 
--- room: 12 and 24 come last, and only where there is too little
-pub limited-iff : {A : Type 0} (n room : ℕ) (x : Outcome A) (l : List A) → (limited n room x ≡ done l) ↔ ((x ≡ done l) × (length l ≤ room))
-limited-iff {A} n room (refused m k) l = (λ e. (e, impossible cc), λ e. e .0)
-limited-iff {A} n room (done xs) l = (to, from)
+-- 12, 23 and 24 come last, and only where there is too much
+pub limited-iff : {A : Type 0} (n most : ℕ) (x : Outcome A) (l : List A) → (limited n most x ≡ done l) ↔ ((x ≡ done l) × (length l ≤ most))
+limited-iff {A} n most (refused m k) l = (λ e. (e, impossible cc), λ e. e .0)
+limited-iff {A} n most (done xs) l = (to, from)
   where
-    to : cond (leb (length xs) room) (done xs) (refused n (length xs)) ≡ done l → (done xs ≡ done l) × (length l ≤ room)
+    to : cond (leb (length xs) most) (done xs) (refused n (length xs)) ≡ done l → (done xs ≡ done l) × (length l ≤ most)
     to e =
-        let a = passed (leb (length xs) room) (done xs) n (length xs) l e in
+        let a = passed (leb (length xs) most) (done xs) n (length xs) l e in
         let same : xs ≡ l = cc (a .1) in
-        (a .1, subst (λ (y : List A). length y ≤ room) same (leb-true (length xs) room (a .0)))
+        (a .1, subst (λ (y : List A). length y ≤ most) same (leb-true (length xs) most (a .0)))
 
-    from : (done xs ≡ done l) × (length l ≤ room) → cond (leb (length xs) room) (done xs) (refused n (length xs)) ≡ done l
+    from : (done xs ≡ done l) × (length l ≤ most) → cond (leb (length xs) most) (done xs) (refused n (length xs)) ≡ done l
     from e =
         let same : xs ≡ l = cc (e .0) in
-        rw (le-leb (length xs) room (subst (λ (y : List A). length y ≤ room) (sym same) (e .1))) (e .0)
+        rw (le-leb (length xs) most (subst (λ (y : List A). length y ≤ most) (sym same) (e .1))) (e .0)
+
+pub limited-refused : {A : Type 0} (n most : ℕ) (x : Outcome A) (m k : ℕ) → limited n most x ≡ refused m k → (x ≡ refused m k) ⊎ ((m ≡ n) × (most < k))
+limited-refused n most (refused i j) m k = inl
+limited-refused n most (done xs) m k = go (leb (length xs) most) refl
+  where
+    go : (b : Bool) → leb (length xs) most ≡ b → cond b (done xs) (refused n (length xs)) ≡ refused m k → (done xs ≡ refused m k) ⊎ ((m ≡ n) × (most < k))
+    go true l e = inl e
+    go false l e = let place : length xs ≡ k = cc in inr (cc, omega (arith, leb-false (length xs) most l))

@@ -7,4 +7,5 @@ pub mod Writing
 pub mod Width
 pub mod Edges
 pub mod Refusals
+pub mod WritingRefusals
 pub mod Rooms

@@ -25,7 +25,7 @@ at-least low high n t = leb→le low n (both (leb low n) (leb n high) t .0)
 -- Every place is before `bound`. A content of an allowed length finds all its words and leaves none: so there is no refusal past the words, and none by 0.
 module _ (bound : ℕ) where
   abbrev Reads : {A : Type 0} → List ℕ → Parser ℕ A → (List ℕ → Type 0) → Type 0
-  Reads s p Left = Keeps (between 1 11) bound s p Left
+  Reads s p Left = Keeps (between 1 11) bound 0 s p Left
 
   -- and no word is left
   abbrev Fills : {A : Type 0} → List ℕ → Parser ℕ A → Type 0

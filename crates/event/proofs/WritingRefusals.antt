@@ -1,0 +1,66 @@
+-- The refusals of a writing, over any dialect: each number with its place, once it is shown that the rows are refused by 21 and 22 only.
+-- Assumes nothing.
+use Prim.Native.Nat.{ℕ, suc, _/_, _%_, _≤_, _<_}
+use native.Mathlib.Omega.{arith}
+use mathlib.Core.Path.{_≡_, refl}
+use mathlib.Core.Logic.{_⊎_, inl, inr, ⊎-elim}
+use mathlib.Core.Bool.{Bool, true, false, cond}
+use mathlib.Core.List.{List, [], _∷_}
+use lib.Dec.{T, leb, eqb, leb→le}
+use lib.ListN.{length}
+use Rattle.event.specs.declared.Row.{Row}
+use Rattle.event.specs.Parser.{Parser, Test, element, many}
+use Rattle.event.specs.Words.{between}
+use Rattle.event.specs.Outcome.{done, refused, outcome, limited}
+use Rattle.event.specs.Writing.{rowsIn, fromElements}
+use Rattle.event.proofs.Elements.{both}
+use Rattle.event.proofs.Refusals.{Keeps, There, keeps-left, keeps-element, keeps-many-at, keeps-outcome}
+use Rattle.event.proofs.Whole.{limited-refused}
+
+-- Refusal n at place k of a writing of `count` rows: 20 at 0; 21 or 22 at a row or where they end; 23 with more words than the largest event has.
+abbrev pub RefusedAt : (largest count n k : ℕ) → Type 0
+RefusedAt largest count n k = ((n ≡ 20) × (k ≡ 0)) ⊎ (((21 ≤ n) × (n ≤ 22) × (k ≤ count)) ⊎ ((n ≡ 23) × (largest < k)))
+
+-- the refusals of a row
+abbrev ofRow : ℕ → Bool
+ofRow = between 21 22
+
+-- a parser of rows, in a writing of `count` rows; what it leaves is no longer than what it found, or shorter
+abbrev pub Writes : {A : Type 0} → ℕ → List Row → Parser Row A → Type 0
+Writes count s p = Keeps ofRow (suc count) 1 s p (λ r. length r ≤ length s)
+
+abbrev pub Takes : {A : Type 0} → ℕ → List Row → Parser Row A → Type 0
+Takes count s p = Keeps ofRow (suc count) 1 s p (λ r. length r < length s)
+
+pub takes-row : {A : Type 0} {count n : ℕ} {fields : Row → A} {tests : Row → List Test} {s : List Row} → There ofRow 1 n tests s → Takes count s (element n fields tests)
+takes-row c = keeps-left (keeps-element c) (λ r e. omega arith)
+
+pub writes-many : {St A : Type 0} {count : ℕ} (item : St → Parser Row A) (next : St → A → St) (stop : List Row → Bool) → T (stop [])
+    → ((st : St) (s : List Row) → Takes count s (item st)) → (st : St) (s : List Row) → Writes count s (many item next stop st)
+writes-many item next stop halt c st s = keeps-left
+    (keeps-many-at item next stop halt (λ r. length r ≤ length s) (λ st t g l. keeps-left (c st t) (λ r e. (e, omega arith))) st s (omega arith))
+    (λ r h. h .1)
+
+rows-counted : (xs : List ℕ) → length (rowsIn xs) ≡ length xs / 4
+rows-counted [] = refl
+rows-counted (k ∷ []) = refl
+rows-counted (k ∷ u ∷ []) = refl
+rows-counted (k ∷ u ∷ c ∷ []) = refl
+rows-counted (k ∷ u ∷ c ∷ d ∷ xs) = omega (arith, rows-counted xs)
+
+module _ {Event : Type 0} {p : Parser Row Event} (words : Event → List ℕ) (largest : ℕ) (c : (rs : List Row) → Writes (length rs) rs p) (xs : List ℕ) (n k : ℕ) where
+  of-rows : limited 23 largest (outcome (λ e. done (words e)) (p 0 (rowsIn xs))) ≡ refused n k → RefusedAt largest (length xs / 4) n k
+  of-rows e = ⊎-elim
+      (λ r.
+      let h = keeps-outcome (c (rowsIn xs)) (omega arith) words n k r in
+      let t = both (leb 21 n) (leb n 22) (h .0) in
+      inr (inl (leb→le 21 n (t .0), leb→le n 22 (t .1), omega (arith, rows-counted xs))))
+      (λ h. inr (inr h))
+      (limited-refused 23 largest (outcome (λ e. done (words e)) (p 0 (rowsIn xs))) n k e)
+
+  pub writing-refused : fromElements (λ rs. limited 23 largest (outcome (λ e. done (words e)) (p 0 rs))) xs ≡ refused n k → RefusedAt largest (length xs / 4) n k
+  writing-refused = go (eqb (length xs % 4) 0)
+    where
+      go : (b : Bool) → cond b (limited 23 largest (outcome (λ e. done (words e)) (p 0 (rowsIn xs)))) (refused 20 0) ≡ refused n k → RefusedAt largest (length xs / 4) n k
+      go true e = of-rows e
+      go false e = inl (cc, cc)
