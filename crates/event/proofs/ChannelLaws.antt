@@ -1,7 +1,7 @@
 -- A set of channels as bits, beside lists of channels: those barred, and those seen before. The laws hold at every width.
 -- Assumes nothing.
 use Prim.Native.Nat.{ℕ, zero, suc, _+_, _/_, _%_, _^_, _-_, _≤_, _<_}
-use native.Mathlib.Nat.{div-eq-of-lt, div-self, pow-suc, mul-mod-left}
+use native.Mathlib.Nat.{zero-div, div-eq-of-lt, div-self, pow-suc, mul-mod-left}
 use native.Mathlib.Omega.{arith}
 use mathlib.Core.Path.{_≡_, refl, sym, ap, _∙_}
 use mathlib.Core.Bool.{Bool, true, false, cond, not, _&&_, _||_}
@@ -61,6 +61,18 @@ or-false false = refl
 
 pub blocked-none : {barred : ℕ} → Blocked barred barred []
 blocked-none {barred} = record { holds = λ k. or-false (present barred k) }
+
+-- where none is barred, the set is those seen
+none-in : (k : ℕ) → present 0 k ≡ false
+unfolding present
+none-in k = rw (zero-div (2 ^ k))
+
+pub seen-only : {set : ℕ} {seen : List ℕ} → Blocked 0 set seen → (k : ℕ) → fresh k seen ≡ not (present set k)
+seen-only {set} {seen} s k = rw (s .holds k, none-in k) (twice (fresh k seen))
+  where
+    twice : (b : Bool) → b ≡ not (not b)
+    twice true = refl
+    twice false = refl
 
 -- one more is seen
 swap : (j k : ℕ) (a x : Bool) → eqb j k || (a || not x) ≡ a || not (not (eqb k j) && x)

@@ -1,4 +1,4 @@
-// The kinds of row of document 01, 'Rows', that dialect S has.
+// The kinds of row of document 01, 'Rows': those of dialect S from 1 on, those of dialect F from 16 on.
 
 pub const PACKET: u32 = 1;
 
@@ -21,3 +21,17 @@ pub const ANODE: u32 = 9;
 pub const HODOSCOPE_HITS: u32 = 10;
 
 pub const OPAQUE_WORD: u32 = 11;
+
+pub const F_STAMP: u32 = 16;
+
+pub const SCALER_BLOCK: u32 = 17;
+
+pub const SCALER: u32 = 18;
+
+pub const PATTERN_UNIT: u32 = 19;
+
+pub const EMPTY_MODULE: u32 = 20;
+
+pub const MODULE: u32 = 21;
+
+pub const VALUE: u32 = 22;

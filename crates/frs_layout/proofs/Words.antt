@@ -45,7 +45,7 @@ codes-blockOf {print = print} {footerWord = footerWord} p n part c d back = same
     (codes-within 5 p (n + 1) (less (codes-bind part (codes-within 5 p n c) (λ a g. d a) back) (λ r t. tt)))
     (λ b g. g .0) (λ b g. (g, omega (arith, g .0 .1, length-append (print (part b)) (footerWord (part b) b ∷ [])))) (λ b g. refl)
 
-codes-scalerValues : Codes (At ended) scalerValues (λ vs. vs) (All (λ v. Passed (scalerChecks 0 v)))
+pub codes-scalerValues : Codes (At ended) scalerValues (λ vs. vs) (All (λ v. Passed (scalerChecks 0 v)))
 codes-scalerValues = same (codes-several ended (codes-layout 10 (λ w. w) (λ w. w) (scalerChecks 10) (λ w p. refl)) (λ w g r. refl) refl)
     (λ vs g. g) (λ vs g. g) (λ vs g. rw (each-map (λ (w : ℕ). w) vs) (map-self vs))
 
@@ -105,7 +105,7 @@ codes-value g seen = codes-layout 10 valueOf (valueWord g) (valueChecks 10 11 se
         let d : valueWord g v % 2 ^ datumBits ≡ v .datum = omega (arith, ltb→lt) in
         λ i. record { channel = c i; datum = d i }
 
-codes-values : (g : ℕ) → Codes (At ended) (values g) (map (valueWord g)) (Goods ValidValue channels [])
+pub codes-values : (g : ℕ) → Codes (At ended) (values g) (map (valueWord g)) (Goods ValidValue channels [])
 codes-values g = same (codes-many channels (codes-value g) ended (λ st v p r. refl) refl []) (λ vs p. p) (λ vs p. p) (λ vs p. prints-map (valueWord g) channels [] vs)
 
 codes-body : (p : ℕ) (h : Header) → Codes any (body p h) bodyWords (λ m. (headerIn m ≡ h) × ValidRest m)

@@ -31,8 +31,11 @@ stamp = do
 abbrev pub blockOf : {A B : Type 0} → (p n : ℕ) → Parser ℕ A → (A → Parser ℕ B) → Parser ℕ B
 blockOf p n values footer = within 5 p (n + 1) (within 5 p n values >>= footer)
 
+abbrev pub scalerValue : Parser ℕ ℕ
+scalerValue = layout 10 (λ w. w) (λ w. w) (scalerChecks 10)
+
 abbrev pub scalerValues : Parser ℕ (List ℕ)
-scalerValues = several (layout 10 (λ w. w) (λ w. w) (scalerChecks 10)) ended
+scalerValues = several scalerValue ended
 
 abbrev pub scalerFooter : List ℕ → Parser ℕ (List ℕ)
 scalerFooter vs = do

@@ -1,0 +1,3 @@
+pub mod Longword
+pub mod Beginning
+pub mod Modules
