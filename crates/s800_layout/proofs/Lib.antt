@@ -6,6 +6,7 @@ pub mod Reading
 pub mod Writing
 pub mod Width
 pub mod Edges
+pub mod EdgesOfWriting
 pub mod Refusals
 pub mod WritingRefusals
 pub mod Rooms
