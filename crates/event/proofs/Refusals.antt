@@ -107,9 +107,9 @@ module _ {E : Type 0} {number : ℕ → Bool} {end past : ℕ} where
   keeps-choice false c d = record { run = d tt .run }
 
   -- a part that may be absent
-  pub keeps-optionally : {A : Type 0} {s : List E} {Left : List E → Type 0} {p : Parser E A} (looks : List E → Bool)
+  pub keeps-optionally : {A : Type 0} {s : List E} {Left : List E → Type 0} (looks : List E → Bool) (p : Parser E A)
       → (T (looks s) → Keeps number end past s p Left) → (T (not (looks s)) → Left s) → Keeps number end past s (optionally looks p) Left
-  keeps-optionally {s = s} looks c d = record { run = keeps-choice (looks s) (λ t. keeps-map some (c t)) (λ t. keeps-give {a = none} (d t)) .run }
+  keeps-optionally {s = s} looks p c d = record { run = keeps-choice (looks s) (λ t. keeps-map some (c t)) (λ t. keeps-give {a = none} (d t)) .run }
 
 -- n items: `Fit n` holds where n are still to come
 pub keeps-times : {E St A : Type 0} {number : ℕ → Bool} {end past : ℕ} (item : St → Parser E A) (next : St → A → St) (Fit : ℕ → List E → Type 0)
