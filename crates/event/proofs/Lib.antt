@@ -6,6 +6,7 @@ pub mod Ends
 pub mod Elements
 pub mod Whole
 pub mod Keys
+pub mod Width
 pub mod Join
 pub mod Leads
 pub mod Turns

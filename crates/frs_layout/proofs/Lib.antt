@@ -3,3 +3,4 @@ pub mod Words
 pub mod Rows
 pub mod Reading
 pub mod Writing
+pub mod Width

@@ -1,23 +1,19 @@
 -- Every word of a valid event fits 16 bits.
 -- Assumes nothing.
-use Prim.Native.Nat.{ℕ, suc, _*_, _^_, _≤_, _<_}
+use Prim.Native.Nat.{ℕ, suc, _*_, _^_, _≤_}
 use native.Mathlib.Omega.{arith}
 use mathlib.Core.Path.{_≡_, refl}
 use mathlib.Core.Bool.{Bool, true, false, _||_}
-use mathlib.Core.List.{List, [], _∷_, _++_, map}
+use mathlib.Core.List.{List, [], _∷_, map}
 use lib.Dec.{T, ltb, eqb, ltb→lt, lt→ltb, leb→le}
-use lib.ListN.{length, length-append}
 use borrow.Author.Tests.{eqb-true}
-use Rattle.event.specs.Parser.{Passed, Goods, All, each, member, alone}
-use Rattle.event.proofs.Elements.{all-goods, each-map, map-self}
+use Rattle.event.specs.Parser.{Passed, All, member, alone}
+use Rattle.event.proofs.Elements.{all-goods}
+use Rattle.event.proofs.Width.{Narrow, Fit, known, word, joined, wholes, items, item-words}
 use Rattle.s800_layout.specs.Event.{Datum, Pair, Sample, energies, hits, Opaque, focalPlaneTime, intermediateCrdc, targetPin, intermediateTrack, intermediatePpac, objectScintillator, Form, trigger, timeOfFlight, scintillator, ionChamber, crdc, hodoscope, objectPin, vmeAdc, opaque, Content, Run, end, plain, Event, eventTag, stampTag, numberTag, energiesTag, samplesTag, anodeTag, tag, ChannelFormat, triggerTime, flightTime, pairEnergy, energy16, adcEnergy}
 use Rattle.s800_layout.specs.Layout.{framed, channelWord, datumWord, pairWords, sampleWords, anodeWords, registerWords, contentWords, runWords, stampWords, numberWords, version, words, sampleChecks, channels, pairChannels, ValidDatum, ValidData, ValidPair, ValidContent, ValidRun, Valid}
 
 ruleset tests = (arith, ltb→lt, leb→le, lt→ltb)
-
-all-append : {A : Type 0} (P : A → Type 0) (xs ys : List A) → All P xs → All P ys → All P (xs ++ ys)
-all-append P [] ys a b = b
-all-append P (x ∷ xs) ys a b = (a .0, all-append P xs ys (a .1) b)
 
 all-member : (P : ℕ → Type 0) (xs : List ℕ) → All P xs → (k : ℕ) → T (member k xs) → P k
 all-member P [] a k m = absurd m
@@ -27,54 +23,31 @@ all-member P (x ∷ xs) a k m = go (all-member P xs (a .1) k) (eqb k x) refl m
     go rest true e t = rw (eqb-true k x e) (a .0)
     go rest false e t = rest t
 
-abbrev Narrow : ℕ → Type 0
-Narrow w = T (ltb w (2 ^ 16))
-
--- Words that fit if they are fewer than 2 ^ 16. So a length word needs no bound of its own: it is the number of the words of its frame.
-record Fit (ws : List ℕ) : Type 0 where
-  fit : length ws < 2 ^ 16 → All Narrow ws
-
--- words known to fit: the passed tests of whole words, as `stampChecks`, are such an `All` as they stand
-known : (ws : List ℕ) → All Narrow ws → Fit ws
-known ws a = record { fit = λ n. a }
-
-word : {ws : List ℕ} (w : ℕ) → Narrow w → Fit ws → Fit (w ∷ ws)
-word w a f = record { fit = λ n. (a, f .fit (omega arith)) }
-
-frame : {ws : List ℕ} (t : ℕ) → Narrow t → Fit ws → Fit (framed t ws)
+frame : {ws : List ℕ} (t : ℕ) → Narrow 16 t → Fit 16 ws → Fit 16 (framed t ws)
 frame t a f = record { fit = λ n. (omega tests, (a, f .fit (omega arith))) }
-
-joined : {xs ys : List ℕ} → Fit xs → Fit ys → Fit (xs ++ ys)
-joined {xs} {ys} f g = let l = length-append xs ys in record { fit = λ n. all-append Narrow xs ys (f .fit (omega arith)) (g .fit (omega arith)) }
-
--- items, each good in its state
-items : {St A : Type 0} {Good : St → A → Type 0} (next : St → A → St) (print : A → List ℕ) → ((st : St) (a : A) → Good st a → Fit (print a))
-    → (st : St) (xs : List A) → Goods Good next st xs → Fit (each print xs)
-items next print h st [] g = known [] tt
-items next print h st (x ∷ xs) g = joined (h st x (g .0)) (items next print h (next st x) xs (g .1))
 
 -- a word with an allowed channel and any value stays within 16 bits
 abbrev Roomy : ChannelFormat → Type 0
 Roomy f = All (λ c. suc c * 2 ^ f .bits ≤ 2 ^ 16) (f .allowed)
 
-channel-fits : (f : ChannelFormat) → Roomy f → (c v : ℕ) → T (member c (f .allowed)) → T (ltb v (2 ^ f .bits)) → Narrow (channelWord f c v)
+channel-fits : (f : ChannelFormat) → Roomy f → (c v : ℕ) → T (member c (f .allowed)) → T (ltb v (2 ^ f .bits)) → Narrow 16 (channelWord f c v)
 channel-fits f r c v m b = omega (tests, all-member _ (f .allowed) r c m)
 
-datum-fits : (f : ChannelFormat) → Roomy f → (seen : List ℕ) (d : Datum) → ValidDatum f seen d → Fit (datumWord f d ∷ [])
-datum-fits f r seen d v = known _ (channel-fits f r (d .channel) (d .value) (v .0) (v .1 .0), tt)
+datum-fits : (f : ChannelFormat) → Roomy f → (seen : List ℕ) (d : Datum) → ValidDatum f seen d → Narrow 16 (datumWord f d)
+datum-fits f r seen d v = channel-fits f r (d .channel) (d .value) (v .0) (v .1 .0)
 
-data-fit : (f : ChannelFormat) → Roomy f → (xs : List Datum) → ValidData f xs → Fit (map (datumWord f) xs)
-data-fit f r xs v = rw (each-map (datumWord f)) at (items channels (λ d. datumWord f d ∷ []) (datum-fits f r) [] xs v)
+data-fit : (f : ChannelFormat) → Roomy f → (xs : List Datum) → ValidData f xs → Fit 16 (map (datumWord f) xs)
+data-fit f r = item-words channels (datumWord f) (datum-fits f r) []
 
-pair-fits : (seen : List ℕ) (x : Pair) → ValidPair seen x → Fit (pairWords x)
+pair-fits : (seen : List ℕ) (x : Pair) → ValidPair seen x → Fit 16 (pairWords x)
 pair-fits seen x v =
     let fits = channel-fits pairEnergy (omega arith) (x .energy .channel) in
     known _ (fits (x .energy .value) (v .0 .0) (v .0 .1 .0), (fits (x .time) (v .0 .0) (v .1 .0), tt))
 
-sample-fits : (s : Sample) → Passed (sampleChecks 0 s) → Fit (sampleWords s)
+sample-fits : (s : Sample) → Passed (sampleChecks 0 s) → Fit 16 (sampleWords s)
 sample-fits s v = known _ (omega tests)
 
-tag-fits : (k : Opaque) → Narrow (tag (opaque k))
+tag-fits : (k : Opaque) → Narrow 16 (tag (opaque k))
 tag-fits focalPlaneTime = tt
 tag-fits intermediateCrdc = tt
 tag-fits targetPin = tt
@@ -82,7 +55,7 @@ tag-fits intermediateTrack = tt
 tag-fits intermediatePpac = tt
 tag-fits objectScintillator = tt
 
-packet-fits : (f : Form) (c : Content f) → ValidContent f c → Fit (framed (tag f) (contentWords f c))
+packet-fits : (f : Form) (c : Content f) → ValidContent f c → Fit 16 (framed (tag f) (contentWords f c))
 packet-fits trigger c v = frame (tag trigger) tt (word (c .pattern) (omega tests) (data-fit triggerTime (omega arith) (c .times) (v .1)))
 packet-fits timeOfFlight xs v = frame (tag timeOfFlight) tt (data-fit flightTime (omega arith) xs v)
 packet-fits scintillator xs v = frame (tag scintillator) tt (items pairChannels pairWords pair-fits [] xs v)
@@ -93,12 +66,11 @@ packet-fits crdc c v =
     (joined (frame samplesTag tt (word (c .samples .threshold) (v .1 .0) samples)) (frame anodeTag tt (known (anodeWords (c .anode)) (v .3)))))
 packet-fits hodoscope (energies id xs) v = frame (tag hodoscope) tt (word id (omega tests) (data-fit energy16 (omega arith) xs (v .1)))
 packet-fits hodoscope (hits h) v = frame (tag hodoscope) tt (word 2 tt (known (registerWords h) v))
-packet-fits objectPin d v = frame (tag objectPin) tt (datum-fits energy16 (omega arith) [] d v)
+packet-fits objectPin d v = frame (tag objectPin) tt (known (datumWord energy16 d ∷ []) (datum-fits energy16 (omega arith) [] d v, tt))
 packet-fits vmeAdc c v = frame (tag vmeAdc) tt (word (c .id) (omega tests) (data-fit adcEnergy (omega arith) (c .energies) (v .1)))
-packet-fits (opaque k) ws v =
-    frame (tag (opaque k)) (tag-fits k) (rw (each-map (λ w. w), map-self) at (items alone (λ w. w ∷ []) (λ u w. known (w ∷ [])) tt ws (all-goods _ ws v)))
+packet-fits (opaque k) ws v = frame (tag (opaque k)) (tag-fits k) (wholes ws v)
 
-run-fits : (r : Run) → ValidRun r → Fit (runWords r)
+run-fits : (r : Run) → ValidRun r → Fit 16 (runWords r)
 run-fits end v = known [] tt
 run-fits (plain q r) v = joined (packet-fits (q .form) (q .content) (v .0)) (run-fits r (v .1))
 
