@@ -1,4 +1,4 @@
--- The spoken cases of document 01 for dialect S, 1 to 9: a single table.
+-- The twelve spoken cases of document 01: a single table.
 -- Assumes nothing.
 use Prim.Native.Nat.{ℕ}
 use mathlib.Core.List.{List, [], _∷_}
@@ -7,7 +7,7 @@ use Rattle.event.specs.declared.StampOrder.{StampOrder}
 use Rattle.event.specs.declared.StampOrder.the-variants.{Crossed, Rising}
 use Rattle.event.specs.Outcome.{Outcome, done, refused}
 use Rattle.event.specs.Rows.{row}
-use Rattle.dialects.specs.Dialects.{Dialect, S}
+use Rattle.dialects.specs.Dialects.{Dialect, S, F}
 
 -- document 01 calls its first line M: here with its word 0, its word 3, and words added
 abbrev pub m : (word0 word3 : ℕ) → List ℕ → List ℕ
@@ -16,6 +16,13 @@ m word0 word3 more = word0 ∷ 0x5800 ∷ 0x0005 ∷ word3 ∷ 0x5803 ∷ 0x1234
 -- M's rows with its stamp (bits 63-32, bits 31-0) and rows added
 abbrev pub mRows : (high low : ℕ) → List Row → List Row
 mRows high low more = row 1 0x5803 0 0 ∷ row 2 0 high low ∷ row 1 0x5804 0 0 ∷ row 3 0 0 7 ∷ more
+
+-- the line of case 10, with longwords added; its rows, with rows added
+abbrev pub f : List ℕ → List ℕ
+f more = 0x00000200 ∷ 0x00f717ff ∷ 0x01f738e1 ∷ 0x02f70563 ∷ 0x32000001 ∷ 0x0000002a ∷ 0x34000000 ∷ more
+
+abbrev pub fRows : List Row → List Row
+fRows more = row 16 0x17ff 0x38e1 0x0563 ∷ row 17 6 1 0 ∷ row 18 6 0 42 ∷ more
 
 pub record Case : Type 0 where
   pub dialect : Dialect
@@ -43,4 +50,8 @@ cases =
     ∷ case S Crossed (m 0x0012 0x0006 (0x0004 ∷ 0x58c0 ∷ 2 ∷ 0x612c ∷ [])) (done (mRows 0 0x00011234 (row 1 0x58c0 2 0 ∷ row 6 0 19 300 ∷ [])))
     -- 9: channel 8, time 100
     ∷ case S Crossed (m 0x0012 0x0006 (0x0004 ∷ 0x5801 ∷ 0 ∷ 0x8064 ∷ [])) (done (mRows 0 0x00011234 (row 1 0x5801 0 0 ∷ row 4 0 0 0 ∷ row 5 0 8 100 ∷ [])))
+    -- 10: 3 rows; 11: 5 rows, the last GEO 13, channel 4, 97; 12: GEO 8 twice
+    ∷ case F Crossed (f []) (done (fRows []))
+    ∷ case F Crossed (f (0x6a000001 ∷ 0x68040061 ∷ 0x6c000005 ∷ [])) (done (fRows (row 21 13 1 5 ∷ row 22 13 4 97 ∷ [])))
+    ∷ case F Crossed (f (0x46000000 ∷ 0x46000000 ∷ [])) (refused 11 8)
     ∷ []

@@ -1,14 +1,67 @@
--- The dialects side by side: a new one is one clause more in each definition.
+-- The dialects side by side: a new one is one clause more in each definition. (The stamp order is of dialect S; F's stamp has one order.)
 -- Assumes nothing.
 use Prim.Native.Nat.{ℕ}
 use mathlib.Core.List.{List}
 use Rattle.event.specs.declared.Row.{Row}
 use Rattle.event.specs.declared.StampOrder.{StampOrder}
-use Rattle.event.specs.Outcome.{Outcome}
-use Rattle.s800_layout.specs.Reading.{reading as readingS}
+use Rattle.event.specs.Outcome.{Outcome, given}
+use Rattle.event.specs.Demands.{SomeEvent, Acceptable}
+use Rattle.s800_layout.specs.Event.{Event as EventS}
+use Rattle.s800_layout.specs.Layout.{Valid as ValidS, words as wordsS, rows as rowsS}
+use Rattle.s800_layout.specs.Reading.{reading as readingS, readingInto as readingIntoS}
+use Rattle.s800_layout.specs.Writing.{writing as writingS}
+use Rattle.frs_layout.specs.Event.{Event as EventF}
+use Rattle.frs_layout.specs.Layout.{Valid as ValidF, words as wordsF, rows as rowsF}
+use Rattle.frs_layout.specs.Reading.{reading as readingF, readingInto as readingIntoF}
+use Rattle.frs_layout.specs.Writing.{writing as writingF}
 
 pub data Dialect : Type 0 where
-  S : Dialect
+  S F : Dialect
 
+-- the events of a dialect, their rules, their words and their rows
+abbrev pub Event : Dialect → Type 0
+Event S = EventS
+Event F = EventF
+
+abbrev pub Valid : (d : Dialect) → Event d → Type 0
+Valid S = ValidS
+Valid F = ValidF
+
+abbrev pub words : (d : Dialect) → Event d → List ℕ
+words S = wordsS
+words F = wordsF
+
+abbrev pub rows : (d : Dialect) → StampOrder → Event d → List Row
+rows S o = rowsS o
+rows F o = rowsF
+
+-- the bits of a word
+abbrev pub width : Dialect → ℕ
+width S = 16
+width F = 32
+
+-- from words to rows
 abbrev pub reading : Dialect → StampOrder → List ℕ → Outcome Row
-reading S = readingS
+reading S o = readingS o
+reading F o = readingF
+
+-- into room for so many rows: 12 last
+abbrev pub readingInto : Dialect → (room : ℕ) → StampOrder → List ℕ → Outcome Row
+readingInto S room o = readingIntoS room o
+readingInto F room o = readingIntoF room
+
+-- from the elements of a buffer of rows to words: 20 to 23
+abbrev pub writing : Dialect → StampOrder → List ℕ → Outcome ℕ
+writing S o = writingS o
+writing F o = writingF
+
+-- Demand 2: some valid event has these words and these rows.
+abbrev pub SomeEventIn : Dialect → StampOrder → List ℕ → List Row → Type 0
+SomeEventIn d o = SomeEvent (Valid d) (words d) (rows d o)
+
+-- Demand 3: an acceptable event, and its rows, which a reading with room enough writes.
+abbrev pub AcceptableIn : Dialect → List ℕ → Type 0
+AcceptableIn d = Acceptable (Valid d) (words d) (width d)
+
+abbrev pub rowsOf : Dialect → StampOrder → List ℕ → List Row
+rowsOf d o ws = given (reading d o ws)
