@@ -4,3 +4,6 @@ pub mod Rows
 pub mod Reading
 pub mod Writing
 pub mod Width
+pub mod Edges
+pub mod Rooms
+pub mod EdgesOfWriting

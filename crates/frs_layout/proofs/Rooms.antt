@@ -1,0 +1,70 @@
+-- Readings of dialect F into buffers at the edges of their room, computed: refusal 12, and what the buffer holds afterwards. The expected answers are document 01's.
+-- Assumes nothing.
+use Prim.Native.Nat.{ℕ}
+use mathlib.Core.Path.{_≡_, refl}
+use mathlib.Core.List.{List, [], _∷_, _++_, map}
+use lib.ListN.{length, replicate}
+use Rattle.event.specs.declared.Answer.{Answer}
+use Rattle.event.specs.declared.Answer.the-variants.{Accepted, Refused}
+use Rattle.event.specs.Outcome.{answerOf, given, overlaid}
+use Rattle.event.specs.Rows.{flat, room}
+use Rattle.frs_layout.specs.Reading.{readingInto}
+
+-- what comes in, and what stands afterwards
+pub record Lent : Type 0 where
+  pub words : List ℕ
+  pub buffer : List ℕ
+
+pub record Left : Type 0 where
+  pub answer : Answer
+  pub buffer : List ℕ
+
+abbrev read : Lent → Left
+read l = record {
+  answer = answerOf (readingInto (room (length (l .buffer))) (l .words));
+  buffer = overlaid (flat (given (readingInto (room (length (l .buffer))) (l .words)))) (l .buffer);
+}
+
+-- document 01's case 11, and case 11 with another GEO in its last module's datum, which is refused at 8
+abbrev f : List ℕ
+f = 0x00000200 ∷ 0x00f717ff ∷ 0x01f738e1 ∷ 0x02f70563 ∷ 0x32000001 ∷ 0x0000002a ∷ 0x34000000 ∷ 0x6a000001 ∷ 0x68040061 ∷ 0x6c000005 ∷ []
+
+abbrev bad : List ℕ
+bad = 0x00000200 ∷ 0x00f717ff ∷ 0x01f738e1 ∷ 0x02f70563 ∷ 0x32000001 ∷ 0x0000002a ∷ 0x34000000 ∷ 0x6a000001 ∷ 0x60040061 ∷ 0x6c000005 ∷ []
+
+-- the elements of case 11's rows
+abbrev elements : List ℕ
+elements = 16 ∷ 0x17ff ∷ 0x38e1 ∷ 0x0563 ∷ 17 ∷ 6 ∷ 1 ∷ 0 ∷ 18 ∷ 6 ∷ 0 ∷ 42 ∷ 21 ∷ 13 ∷ 1 ∷ 5 ∷ 22 ∷ 13 ∷ 4 ∷ 97 ∷ []
+
+-- a buffer of n elements
+abbrev nines : ℕ → List ℕ
+nines n = replicate n 9
+
+pub record Case : Type 0 where
+  pub lent : Lent
+  pub left : Left
+
+abbrev case : List ℕ → List ℕ → Answer → List ℕ → Case
+case ws b a after = record { lent = record { words = ws; buffer = b }; left = record { answer = a; buffer = after } }
+
+abbrev cases : List Case
+cases =
+    -- 12, place the rows needed, the buffer as it was
+    case f [] (Refused 12 5) []
+    ∷ case f (nines 3) (Refused 12 5) (nines 3)
+    ∷ case f (nines 4) (Refused 12 5) (nines 4)
+    ∷ case f (nines 16) (Refused 12 5) (nines 16)
+    ∷ case f (nines 19) (Refused 12 5) (nines 19)
+    -- room: only the elements of the rows given are written
+    ∷ case f (nines 20) (Accepted 5) elements
+    ∷ case f (nines 21) (Accepted 5) (elements ++ nines 1)
+    ∷ case f (nines 23) (Accepted 5) (elements ++ nines 3)
+    ∷ case f (nines 40) (Accepted 5) (elements ++ nines 20)
+    -- 12 comes last, and no refusal writes
+    ∷ case bad [] (Refused 10 8) []
+    ∷ case bad (nines 19) (Refused 10 8) (nines 19)
+    ∷ case bad (nines 40) (Refused 10 8) (nines 40)
+    ∷ []
+
+pub rooms : map (λ (c : Case). read (c .lent)) cases ≡ map (λ (c : Case). c .left) cases
+rooms = refl
