@@ -6,7 +6,7 @@ use native.Mathlib.Omega.{arith}
 use mathlib.Core.Path.{_≡_, refl, ap, sym, _∙_}
 use mathlib.Core.Bool.{Bool, true, false, cond}
 use mathlib.Core.List.{List, [], _∷_, append-nil}
-use lib.Dec.{T, eqb, leb, ltb}
+use lib.Dec.{eqb, ltb}
 use lib.ListN.{length, getD, drop}
 use lib.Seq.{slice, slice-empty, length-slice}
 use borrow.Author.Tests.{eq-eqb, ne-eqb, eqb-true, lt-ltb, le-leb, lt-leb}
@@ -17,13 +17,11 @@ use Rattle.event.proofs.Codes.{true-T}
 use Rattle.event.proofs.Ends.{ends-many}
 use Rattle.event.proofs.Loops.{to-the-end, at-end}
 use Rattle.event.proofs.Turns.{at-word}
-use Rattle.frs_layout.specs.Event.{Stamp}
-use Rattle.frs_layout.specs.Layout.{longword, halves, countChecks, scalerChecks, scalerRow, scalerRowsFrom, scalerRows, scalerBlockRow}
+use Rattle.frs_layout.specs.Layout.{longword, halves, scalerChecks, scalerRow, scalerRowsFrom, scalerRows, scalerBlockRow}
 use Rattle.frs_layout.specs.Reading.{stamp, blockOf, scalerValue, scalerValues, scalerFooter, scaler}
 use Rattle.frs_layout.proofs.Words.{codes-scalerValues}
-use Rattle.frs.specs.declared.Part.{Part}
-use Rattle.frs.specs.declared.Part.the-variants.{Read, Refused}
-use Rattle.frs.specs.Beginning.{stampFault, stampAt, Whole, PartOf}
+use Rattle.frs.specs.declared.Part.the-variants.{Read}
+use Rattle.frs.specs.Beginning.{stampFault, stampAt, PartOf}
 use Rattle.frs.proofs.Blocks.{block-short, values-read}
 use Rattle.frs.proofs.Judged.{under-judged}
 

@@ -2,19 +2,18 @@
 -- Assumes nothing.
 use Prim.Native.Nat.{ℕ, _+_, _≤_, _<_}
 use native.Mathlib.Omega.{arith}
-use mathlib.Core.Path.{_≡_, refl, ap, sym, _∙_}
+use mathlib.Core.Path.{_≡_, ap, sym, _∙_}
 use mathlib.Core.Bool.{true}
 use mathlib.Core.List.{List, [], _∷_, _++_, append-assoc}
 use lib.ListN.{length, drop, length-append}
 use borrow.Author.Tests.{ne-eqb, le-leb, lt-leb}
 use Rattle.event.specs.declared.Answer.{Answer}
 use Rattle.event.specs.declared.Answer.the-variants as answer
-use Rattle.event.specs.Parser.{Result, ok, ended, optionally, many, each, ifAny}
+use Rattle.event.specs.Parser.{ok, ended, optionally, many, each, ifAny}
 use Rattle.event.specs.Words.{between}
 use Rattle.event.specs.Rows.{storeRow}
 use Rattle.event.specs.Scanning.{storeRows, Scanned}
 use Rattle.event.proofs.Leads.{leads-part, store-append, scanned-refuse}
-use Rattle.frs_layout.specs.Event.{Event}
 use Rattle.frs_layout.specs.Layout.{stampRow, scalerRows, patternRows, moduleRows, rows, geos, smallestEvent, largestEvent}
 use Rattle.frs_layout.specs.Reading.{stamp, scaler, patternUnit, atPattern, oneModule, eventParser}
 use Rattle.frs.specs.declared.Part.{Part}

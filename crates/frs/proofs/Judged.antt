@@ -14,7 +14,7 @@ use Rattle.event.proofs.ChannelLaws.{Blocked, seen-only}
 use Rattle.frs_layout.specs.Event.{Value, block}
 use Rattle.frs_layout.specs.Layout.{longword, halves, datumBits, valueWord, geoChecks}
 use Rattle.frs_layout.specs.Reading.{under, Header, bare, full, headerOf, header, valueOf, value, footer}
-use Rattle.frs.specs.Longword.{isHeader, headerFault, valueFault}
+use Rattle.frs.specs.Longword.{isHeader, headerFault, valueFault, footerFault}
 
 -- an upper half over 16 data bits
 pub under-judged : (upper i w : ℕ) (r : List ℕ) → under upper i (w ∷ r) ≡ cond (eqb w (halves upper (w % 2 ^ 16))) (ok (w % 2 ^ 16) (suc i) r) (refuse 10 i)
@@ -28,7 +28,7 @@ low-six w =
 flag-two : (g l w : ℕ) → l < 2 ^ 6 → w ≡ longword g 2 l → w / 2 ^ 24 % 2 ^ 3 ≡ 2
 flag-two g l w h e = let d : w / 2 ^ 24 ≡ 8 * g + 2 = omega arith in rw d (mul-add-mod-self-left 8 g 2)
 
-abbrev onFault : {A : Type 0} → ℕ → A → ℕ → List ℕ → Result ℕ A
+abbrev pub onFault : {A : Type 0} → ℕ → A → ℕ → List ℕ → Result ℕ A
 onFault n a i r = cond (eqb n 0) (ok a (suc i) r) (refuse n i)
 
 module _ {set : ℕ} {seen : List ℕ} (s : Blocked 0 set seen) (i : ℕ) (r : List ℕ) where
@@ -120,10 +120,10 @@ module _ {set : ℕ} {seen : List ℕ} (s : Blocked 0 set seen) (i : ℕ) (r : L
         go false p false q = other-judged (eqb-false (w / 2 ^ 24 % 2 ^ 3) 6 p) (eqb-false (w / 2 ^ 24 % 2 ^ 3) 2 q)
 
 -- a block's footer
-pub footer-judged : (g : ℕ) (vs : List Value) (i w : ℕ) (r : List ℕ)
-    → footer g vs i (w ∷ r) ≡ cond (eqb w (longword g 4 (w % 2 ^ 16))) (ok (block g vs (w % 2 ^ 16)) (suc i) r) (refuse 9 i)
+pub footer-judged : (g : ℕ) (vs : List Value) (i w : ℕ) (r : List ℕ) → footer g vs i (w ∷ r) ≡ onFault (footerFault g w) (block g vs (w % 2 ^ 16)) i r
+unfolding footerFault
 footer-judged g vs i w r = rw (lt-ltb (w % 2 ^ 16) (2 ^ 16) (omega arith)) (go (eqb w (longword g 4 (w % 2 ^ 16))))
   where
-    go : (b : Bool) → then (λ c. give (block g vs c)) (cond b (ok (w % 2 ^ 16) (suc i) r) (refuse 9 i)) ≡ cond b (ok (block g vs (w % 2 ^ 16)) (suc i) r) (refuse 9 i)
+    go : (b : Bool) → then (λ c. give (block g vs c)) (cond b (ok (w % 2 ^ 16) (suc i) r) (refuse 9 i)) ≡ onFault (cond b 0 9) (block g vs (w % 2 ^ 16)) i r
     go true = refl
     go false = refl

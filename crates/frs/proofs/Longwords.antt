@@ -10,7 +10,7 @@ use Rattle.event.specs.Channels.{present}
 use Rattle.frs_layout.specs.Layout.{longword, halves, datumBits, valueWord}
 use Rattle.event.proofs.Impossible.{impossible}
 use Rattle.frs_layout.specs.Reading.{valueOf}
-use Rattle.frs.specs.Longword.{isHeader, headerFault}
+use Rattle.frs.specs.Longword.{isHeader, headerFault, footerFault}
 
 -- two tests that hold together
 alike : (a b c d : ℕ) → (a ≡ b → c ≡ d) → (c ≡ d → a ≡ b) → eqb a b ≡ eqb c d
@@ -23,8 +23,14 @@ alike a b c d to from = go (eqb a b) refl
 pub under-test : (upper w : ℕ) → eqb (w / 2 ^ 16) upper ≡ eqb w (halves upper (w % 2 ^ 16))
 under-test upper w = alike (w / 2 ^ 16) upper w (halves upper (w % 2 ^ 16)) (λ e. omega arith) (λ e. omega arith)
 
-pub footer-test : (geo w : ℕ) → eqb (w / 2 ^ 16) (geo * 2 ^ 11 + 2 ^ 10) ≡ eqb w (longword geo 4 (w % 2 ^ 16))
-footer-test geo w = alike (w / 2 ^ 16) (geo * 2 ^ 11 + 2 ^ 10) w (longword geo 4 (w % 2 ^ 16)) (λ e. omega arith) (λ e. omega arith)
+-- a footer: bits 31-16 are the GEO, the flag 4 and zeros
+pub footer-good : (geo w : ℕ) → w / 2 ^ 16 ≡ geo * 2 ^ 11 + 2 ^ 10 → 0 ≡ footerFault geo w
+unfolding footerFault
+footer-good geo w e = rw (eq-eqb w (longword geo 4 (w % 2 ^ 16)) (omega arith))
+
+pub footer-bad : (geo w : ℕ) → (w / 2 ^ 16 ≡ geo * 2 ^ 11 + 2 ^ 10 → ⊥) → 9 ≡ footerFault geo w
+unfolding footerFault
+footer-bad geo w h = rw (ne-eqb w (longword geo 4 (w % 2 ^ 16)) (λ e. h (omega arith)))
 
 -- a data longword: bits 31-21 are the GEO, the flag 0 and zeros; the datum fills its 16 bits no further than it may
 pub value-layout : (geo w : ℕ) → w / 2 ^ 21 ≡ geo * 2 ^ 6 → w % 2 ^ 16 < 2 ^ datumBits → eqb w (valueWord geo (valueOf w)) ≡ true

@@ -3,29 +3,25 @@
 use Prim.Native.Nat.{ℕ, suc, _+_, _-_, _/_, _%_, _^_, _≤_, _<_}
 use native.Mathlib.Nat.{le-refl}
 use native.Mathlib.Omega.{arith}
-use mathlib.Core.Path.{_≡_, refl, ap, sym, _∙_}
-use mathlib.Core.Bool.{Bool, true, false, cond}
-use mathlib.Core.List.{List, [], _∷_, _++_, append-assoc}
+use mathlib.Core.Path.{_≡_, refl, _∙_}
+use mathlib.Core.Bool.{true, false}
+use mathlib.Core.List.{List, [], _∷_}
 use mathlib.Core.Option.{Option, some, none}
-use lib.Dec.{eqb, leb}
-use lib.ListN.{length, getD, drop, length-append}
+use lib.Dec.{eqb}
+use lib.ListN.{length, getD, drop}
 use lib.Seq.{slice, slice-empty}
-use borrow.Author.Tests.{eq-eqb, ne-eqb, le-leb, lt-leb}
+use borrow.Author.Tests.{eq-eqb, ne-eqb}
 use Rattle.event.specs.declared.Row.{Row}
-use Rattle.event.specs.Parser.{Result, ok, refuse, then, give, ended, filled, within, optionally, many, each, ifAny}
+use Rattle.event.specs.Parser.{Result, ok, refuse, then, give, filled, within, optionally, ifAny}
 use Rattle.event.specs.Rows.{storeRow}
-use Rattle.event.specs.Words.{between}
-use Rattle.event.specs.Scanning.{storeRows, Leads}
-use Rattle.event.proofs.Leads.{leads-part, store-append}
 use Rattle.event.proofs.Loops.{to-the-end, within-slice, within-short}
 use Rattle.event.proofs.Turns.{at-word}
-use Rattle.frs_layout.specs.Event.{PatternUnit, Event}
-use Rattle.frs_layout.specs.Layout.{halves, stampRow, scalerRows, patternRow, patternRows, moduleRows, rows, geos, smallestEvent, largestEvent}
-use Rattle.frs_layout.specs.Reading.{stamp, scaler, patternBody, patternUnit, atPattern, oneModule, eventParser}
+use Rattle.frs_layout.specs.Event.{PatternUnit}
+use Rattle.frs_layout.specs.Layout.{halves, patternRow, patternRows}
+use Rattle.frs_layout.specs.Reading.{patternBody, patternUnit, atPattern}
 use Rattle.frs.specs.declared.Part.{Part}
 use Rattle.frs.specs.declared.Part.the-variants.{Read, Refused}
-use Rattle.frs.specs.Beginning.{stampFault, stampAt, PartOf, Begins}
-use Rattle.frs.proofs.Beginning.{stamp-judged}
+use Rattle.frs.specs.Beginning.{PartOf}
 use Rattle.frs.proofs.Judged.{under-judged}
 
 module _ (ws : List ℕ) (at : ℕ) where

@@ -4,8 +4,8 @@ use Prim.Native.Nat.{ℕ, suc, _+_, _/_, _%_, _^_, _≤_, _<_}
 use native.Mathlib.Nat.{le-refl}
 use native.Mathlib.Omega.{arith}
 use mathlib.Core.Path.{_≡_, refl, ap, sym, _∙_, subst}
-use mathlib.Core.Bool.{true, false, cond}
-use mathlib.Core.List.{List, [], _∷_, _++_, map, append-nil}
+use mathlib.Core.Bool.{cond}
+use mathlib.Core.List.{List, [], _∷_, map, append-nil}
 use lib.Dec.{eqb}
 use lib.ListN.{length, getD, drop, length-map}
 use lib.Seq.{slice, length-slice}
@@ -25,12 +25,12 @@ use Rattle.event.proofs.Leads.{refused-scan}
 use Rattle.event.proofs.Loops.{to-the-end, at-end}
 use Rattle.event.proofs.Turns.{Reached, stop, step, at-word}
 use Rattle.frs_layout.specs.Event.{Value, Module, empty, block}
-use Rattle.frs_layout.specs.Layout.{longword, valueWord, valueRow, moduleRows, channels, geos}
+use Rattle.frs_layout.specs.Layout.{valueWord, valueRow, moduleRows, channels, geos}
 use Rattle.frs_layout.specs.Reading.{valueOf, value, values, footer, oneModule}
 use Rattle.frs_layout.proofs.Words.{codes-value, codes-values, codes-module, not-ended}
 use Rattle.frs.specs.declared.Opened.{Opened}
 use Rattle.frs.specs.declared.Opened.the-variants.{Empty, Block, Refused}
-use Rattle.frs.specs.Longword.{valueFault}
+use Rattle.frs.specs.Longword.{valueFault, footerFault}
 use Rattle.frs.specs.Modules.{openedOf, rowsOpened, openedRows}
 use Rattle.frs.proofs.Blocks.{values-refused, values-read}
 use Rattle.frs.proofs.Judged.{value-judged, footer-judged}
@@ -135,24 +135,24 @@ module _ {set : ℕ} {ws : List ℕ} {i₀ k₀ i k : ℕ} {b₀ b : List ℕ} (
 
     module _ {k₁ k₂ : ℕ} {b₁ b₂ : List ℕ} (s : Scanned (each (valueRows g)) valuesThere k₁ b₁ (answer.Accepted k₂) b₂) {w : ℕ} (e : w ≡ getD ws end 0) where
       read : oneModule (h .state) i (slice i (length ws) ws)
-          ≡ filled (slice (end + 1) (length ws) ws) (cond (eqb w (longword g 4 (w % 2 ^ 16))) (ok (block g (good-values s .list) (w % 2 ^ 16)) (end + 1) []) (refuse 9 end))
+          ≡ filled (slice (end + 1) (length ws) ws) (cond (eqb (footerFault g w) 0) (ok (block g (good-values s .list) (w % 2 ^ 16)) (end + 1) []) (refuse (footerFault g w) end))
       read =
           let v = good-values s in
           let one : suc end ≡ end + 1 = omega arith in
           o .leads .3 ∙ values-read i n (i + 1) (values g) (footer g) ws (omega (arith, o .leads .2, o .leads .1)) (v .parsed)
           ∙ rw (← o .leads .1, ← e, footer-judged g (v .list) end w [], one)
 
-      pub footer-refused : (after : List ℕ) → eqb w (longword g 4 (w % 2 ^ 16)) ≡ false → EndsRefused 9 end after
-      footer-refused after z = refused-at after (read ∙ rw z)
+      pub footer-refused : {m : ℕ} (after : List ℕ) → m ≡ footerFault g w → (m ≡ 0 → ⊥) → EndsRefused m end after
+      footer-refused {m} after f z = refused-at after (read ∙ rw (← f, ne-eqb m 0 z))
 
-      pub block-taken : {set′ : ℕ} → eqb w (longword g 4 (w % 2 ^ 16)) ≡ true → set′ ≡ insert set (g % 32) → k₁ ≡ k + 1 → b₁ ≡ storeRows b k (rowsOpened ws n (Block g end)) → length b₂ ≡ length b
+      pub block-taken : {set′ : ℕ} → 0 ≡ footerFault g w → set′ ≡ insert set (g % 32) → k₁ ≡ k + 1 → b₁ ≡ storeRows b k (rowsOpened ws n (Block g end)) → length b₂ ≡ length b
           → Modules set′ ws i₀ k₀ b₀ (end + 1) k₂ b₂
       block-taken z q p t l =
           let v = good-values s in
           let few = h .few in
           let rest = map (valueRow g) (v .list) in
           let own : storeRow b k (row 21 g n (getD ws end 0 % 2 ^ 16)) ≡ storeRow b k (row 21 g (length (v .list)) (w % 2 ^ 16)) = rw (v .size, e) in
-          taken (block g (v .list) (w % 2 ^ 16)) (read ∙ rw z) refl (o .leads .0) q (omega (arith, o .leads .2)) (omega (arith, v .counted, v .size, o .leads .1))
+          taken (block g (v .list) (w % 2 ^ 16)) (read ∙ rw (← z)) refl (o .leads .0) q (omega (arith, o .leads .2)) (omega (arith, v .counted, v .size, o .leads .1))
           (omega (arith, v .counted, length-map (v .list) (valueRow g))) (v .stored ∙ ap (λ (m : ℕ). storeRows b₁ m rest) p ∙ ap (λ (l : List ℕ). storeRows l (k + 1) rest) (t ∙ own)) l
 
 -- from the first module on

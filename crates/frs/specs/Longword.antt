@@ -5,7 +5,7 @@ use mathlib.Core.Bool.{Bool, false, cond, _||_}
 use lib.Dec.{eqb}
 use Rattle.event.specs.Channels.{present}
 use Rattle.event.specs.Words.{between}
-use Rattle.frs_layout.specs.Layout.{valueWord}
+use Rattle.frs_layout.specs.Layout.{longword, valueWord}
 use Rattle.frs_layout.specs.Reading.{valueOf}
 
 -- a module's header, its GEO apart: flag 6 over 0, or flag 2 over a count
@@ -19,3 +19,7 @@ headerFault seen w = cond (isHeader w) (cond (eqb (w / 2 ^ 27) 5 || eqb (w / 2 ^
 -- 10: not a data longword of that GEO; 11: a channel seen; 0 for none
 unfoldable pub valueFault : (geo seen w : ℕ) → ℕ
 valueFault geo seen w = cond (eqb w (valueWord geo (valueOf w))) (cond (present seen (w / 2 ^ 16 % 2 ^ 5)) 11 0) 10
+
+-- 9: not a footer of that GEO; 0 for none
+unfoldable pub footerFault : (geo w : ℕ) → ℕ
+footerFault geo w = cond (eqb w (longword geo 4 (w % 2 ^ 16))) 0 9

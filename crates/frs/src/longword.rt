@@ -6,8 +6,8 @@ ghost use mathlib.Core.Path.{_≡_};
 ghost use lib.Dec.{eqb};
 ghost use lib.ListN.{length, getD};
 ghost use denote.Ref.{now};
-ghost use Rattle.frs_layout.specs.Layout.{longword, halves};
-ghost use Rattle.frs.specs.Longword.{isHeader, headerFault, valueFault};
+ghost use Rattle.frs_layout.specs.Layout.{halves};
+ghost use Rattle.frs.specs.Longword.{isHeader, headerFault, valueFault, footerFault};
 
 // Of the 16 bits below a data longword's channel, the datum's are the numbers under this one.
 pub(crate) const DATUM_END: u32 = 16384;
@@ -47,12 +47,15 @@ pub(crate) fn is_under(upper: u32, w: u32) -> bool
     w / 0x0001_0000 == upper
 }
 
-// The footer of the module with this GEO: flag 4 over bits 23-16 zero.
-pub(crate) fn is_footer(geo: u32, w: u32) -> bool
+// The refusal that the footer of the module with this GEO meets, 0 for none: flag 4 over bits 23-16 zero.
+pub(crate) fn footer_fault(geo: u32, w: u32) -> u32
     requires { ⌜ geo < 32 ⌝ }
-    ensures { λ r. ⌜ r ≡ eqb w (longword geo 4 (w % 2 ^ 16)) ⌝ }
+    ensures { λ r. ⌜ r ≡ footerFault geo w ⌝ }
 {
-    w / 0x0001_0000 == geo * 0x0800 + 0x0400
+    if w / 0x0001_0000 != geo * 0x0800 + 0x0400 {
+        return refusal::INNER;
+    }
+    0
 }
 
 // A module's header, its GEO apart: flag 6 over 0, or flag 2 over a count from 1 to 32.

@@ -3,14 +3,13 @@ use crate::Opened;
 use crate::Part;
 use crate::begin::begin;
 use crate::longword::channel_of;
-use crate::longword::is_footer;
+use crate::longword::footer_fault;
 use crate::longword::value_fault;
 use crate::longword::word;
 use crate::module::open_module;
 use crate::module::store_value;
 use event::Answer;
 use event::channels::with_channel;
-use event::refusal;
 ghost use Prim.Native.Nat.{_≤_};
 ghost use mathlib.Core.List.{[]};
 ghost use lib.ListN.{length, drop};
@@ -28,15 +27,13 @@ fn modules(words: &[u32], start: usize, rows: &mut [u32], stored: usize) -> Answ
     let mut at = start;
     let mut count = stored;
     let mut seen: u32 = 0;
-    let answer = 'blocks: loop {
+    'blocks: loop {
         if words.len() <= at {
             break 'blocks Answer::Accepted(count);
         }
         let opened = open_module(words, at, seen, rows, count);
         match opened {
-            Opened::Refused { number } => {
-                break 'blocks Answer::Refused { number, place: at };
-            }
+            Opened::Refused { number } => break 'blocks Answer::Refused { number, place: at },
             Opened::Empty { geo } => {
                 seen = with_channel(seen, geo);
                 at += 1;
@@ -58,17 +55,14 @@ fn modules(words: &[u32], start: usize, rows: &mut [u32], stored: usize) -> Answ
                     count += 1;
                     at += 1;
                 }
-                if !is_footer(geo, word(words, at)) {
-                    break 'blocks Answer::Refused {
-                        number: refusal::INNER,
-                        place: at,
-                    };
+                let number = footer_fault(geo, word(words, at));
+                if number != 0 {
+                    break 'blocks Answer::Refused { number, place: at };
                 }
                 at += 1;
             }
         }
-    };
-    answer
+    }
 }
 
 // Reads the event up to the first longword that breaks a rule.

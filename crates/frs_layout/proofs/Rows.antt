@@ -15,9 +15,9 @@ use Rattle.event.proofs.Many.{codes-times}
 use Rattle.event.proofs.Elements.{prints-map}
 use Rattle.event.proofs.RowCodes.{codes-row}
 use Rattle.event.proofs.Impossible.{impossible}
-use Rattle.frs_layout.specs.Event.{Stamp, PatternUnit, Value, Module, empty, block}
+use Rattle.frs_layout.specs.Event.{Module, empty, block}
 use Rattle.frs_layout.specs.Layout.{stampRow, scalerRow, scalerRowsFrom, scalerBlockRow, scalerRows, patternRow, patternRows, valueRow, moduleRows, rows, stampChecks, countChecks, scalerChecks, patternChecks, valueChecks, channels, ValidScalers, ValidValue, ValidModule, Formed}
-use Rattle.frs_layout.specs.Writing.{stamp, scalerAt, nextIndex, scaler, patternUnit, atPattern, Header, bare, full, headerRow, startsModule, headerOf, headerChecks, value, body, oneModule, eventRowsUpTo, atStamp}
+use Rattle.frs_layout.specs.Writing.{stamp, nextIndex, scaler, patternUnit, atPattern, Header, bare, full, headerRow, startsModule, headerOf, headerChecks, value, body, oneModule, eventRowsUpTo, atStamp}
 use Rattle.frs_layout.proofs.Event.{valuesOf, codes-event}
 
 codes-stamp : Codes any stamp (λ s. stampRow s ∷ []) (λ s. Passed (stampChecks 0 s))

@@ -1,25 +1,24 @@
 -- The parser of F's longwords codes `words`.
 -- Assumes nothing.
-use Prim.Native.Nat.{ℕ, suc, _+_, _/_, _%_, _^_}
+use Prim.Native.Nat.{ℕ, _+_, _/_, _%_, _^_}
 use native.Mathlib.Omega.{arith}
 use mathlib.Core.Path.{_≡_, refl, ap}
-use mathlib.Core.Bool.{Bool, true, false, not}
+use mathlib.Core.Bool.{Bool, true, false}
 use mathlib.Core.List.{List, [], _∷_, _++_, map}
 use lib.Dec.{T, eqb, eqb→eq, ltb→lt, leb→le}
 use lib.ListN.{length, length-append, length-map}
 use borrow.Author.Tests.{eq-eqb, ne-eqb}
-use Rattle.event.specs.Parser.{Parser, Passed, ended, prints, Goods, All}
+use Rattle.event.specs.Parser.{Parser, Passed, ended, Goods, All}
 use Rattle.event.specs.Words.{belowChecks}
 use Rattle.event.proofs.Codes.{Codes, any, At, same, less, not-true, codes-give, codes-here, codes-within}
 use Rattle.event.proofs.Sequences.{codes-bind}
 use Rattle.event.proofs.Many.{codes-many}
-use Rattle.event.proofs.Ends.{Ends}
 use Rattle.event.proofs.Elements.{codes-layout, codes-exactly, codes-several, prints-map, each-map, map-self}
 use Rattle.event.proofs.Impossible.{impossible}
-use Rattle.frs_layout.specs.Event.{Stamp, PatternUnit, Value, Module, empty, block, Event}
+use Rattle.frs_layout.specs.Event.{Stamp, PatternUnit, Value, Module, empty, block}
 use Rattle.frs_layout.specs.Layout.{longword, halves, datumBits, valueWord, stampWords, scalerWords, patternWords, moduleWords, words, stampChecks, countChecks, scalerChecks, patternChecks, valueChecks, counterChecks, channels, ValidScalers, ValidValue, ValidModule, Formed}
 use Rattle.frs_layout.specs.Reading.{under, stamp, blockOf, scalerValues, scaler, patternUnit, atPattern, Header, bare, full, headerWord, headerOf, headerChecks, valueOf, value, values, body, oneModule, eventUpTo, atStamp}
-use Rattle.frs_layout.proofs.Event.{valuesOf, codes-event, ends-event}
+use Rattle.frs_layout.proofs.Event.{valuesOf, codes-event}
 
 codes-under : (upper : ℕ) → Codes any (under upper) (λ d. halves upper d ∷ []) (λ d. Passed (belowChecks 0 (2 ^ 16) d))
 codes-under upper = codes-layout 10 (_% 2 ^ 16) (halves upper) (belowChecks 10 (2 ^ 16)) (λ d p. omega (arith, ltb→lt))

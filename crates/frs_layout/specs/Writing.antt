@@ -1,7 +1,7 @@
 -- Writing one event of dialect F from its rows: its longwords, or the first refusal and its place (document 01, 'Writing').
 -- Assumes nothing.
 use Prim.Native.Nat.{ℕ, suc}
-use mathlib.Core.Bool.{Bool, true, false, cond, _||_}
+use mathlib.Core.Bool.{Bool, false, cond, _||_}
 use mathlib.Core.List.{List, [], _∷_, _++_}
 use Rattle.event.specs.declared.Row.{Row}
 use Rattle.event.specs.Parser.{Parser, Test, ended, _>>=_, give, optionally, times, many}

@@ -1,7 +1,6 @@
 -- `begin::begin` meets its contract. Assumes nothing.
 use native.Mathlib.Omega.{arith}
-use mathlib.Core.Path.{_≡_, sym, _∙_}
-use Prim.Native.Nat.{_≤_}
+use mathlib.Core.Path.{sym, _∙_}
 use Rattle.frs.proofs.Begun.{too-few, too-many, stamp-refused, scaler-refused, begins}
 use borrow.Author.Needs.{needs}
 use Rattle.frs.proofs.begin.begin.Statement.{statement}

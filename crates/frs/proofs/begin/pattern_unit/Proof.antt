@@ -1,7 +1,6 @@
 -- `begin::pattern_unit` meets its contract. Assumes nothing.
 use native.Mathlib.Omega.{arith}
-use mathlib.Core.Path.{_≡_, sym, _∙_}
-use Prim.Native.Nat.{_+_, _≤_}
+use mathlib.Core.Path.{sym, _∙_}
 use Rattle.frs.proofs.Longwords.{denied, granted}
 use Rattle.frs.proofs.PatternUnit.{part-refused, pattern-end, pattern-other, pattern-header, pattern-short, pattern-register, pattern-multiplicity, pattern-footer, pattern-read}
 use borrow.Author.Needs.{needs}

@@ -1,7 +1,6 @@
 -- `begin::scaler` meets its contract. Assumes nothing.
 use native.Mathlib.Omega.{arith}
-use mathlib.Core.Path.{_≡_, sym, _∙_}
-use Prim.Native.Nat.{_+_, _≤_}
+use mathlib.Core.Path.{sym, _∙_}
 use Rattle.frs.proofs.Beginning.{scaler-low, scaler-high, scaler-short, scaler-footer, scaler-read}
 use Rattle.frs.proofs.PatternUnit.{part-refused}
 use borrow.Author.Needs.{needs}

@@ -1,7 +1,6 @@
 -- `longword::header_fault` meets its contract. Assumes nothing.
 use native.Mathlib.Omega.{arith}
 use mathlib.Core.Path.{sym, _∙_}
-use mathlib.Core.Bool.{true, false}
 use Rattle.frs.proofs.Longwords.{is-in, denied, granted, no-header, geo-5, geo-6, own-geo}
 use borrow.Author.Needs.{needs}
 use Rattle.frs.proofs.longword.header_fault.Statement.{statement}

@@ -1,5 +1,5 @@
 -- `longword::is_header` meets its contract. Assumes nothing.
-use borrow.Author.Tests.{eq-eqb, ne-eqb, lt-leb, le-leb}
+use borrow.Author.Tests.{ne-eqb, lt-leb, le-leb}
 use Rattle.frs.specs.Longword.{isHeader}
 use borrow.Author.Needs.{needs}
 use Rattle.frs.proofs.longword.is_header.Statement.{statement}

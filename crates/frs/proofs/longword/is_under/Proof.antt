@@ -1,6 +1,5 @@
 -- `longword::is_under` meets its contract. Assumes nothing.
 use Rattle.frs.proofs.Longwords.{under-test}
-use borrow.Author.Needs.{needs}
 use Rattle.frs.proofs.longword.is_under.Statement.{statement}
 use Rattle.frs.proofs.longword.is_under.Tie as tie
 

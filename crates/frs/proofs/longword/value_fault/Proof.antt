@@ -1,8 +1,5 @@
 -- `longword::value_fault` meets its contract. Assumes nothing.
-use mathlib.Core.Path.{refl}
 use native.Mathlib.Omega.{arith}
-use mathlib.Core.Path.{_≡_, sym, _∙_}
-use Prim.Native.Nat.{_/_, _%_, _^_}
 use Rattle.frs.proofs.Longwords.{value-layout, value-other, value-wide, is-in}
 use Rattle.frs.specs.Longword.{valueFault}
 use borrow.Author.Needs.{needs}

@@ -1,7 +1,6 @@
 -- `module::open_module` meets its contract. Assumes nothing.
 use native.Mathlib.Omega.{arith}
-use mathlib.Core.Path.{_≡_, sym, _∙_}
-use Prim.Native.Nat.{_+_, _≤_}
+use mathlib.Core.Path.{sym, _∙_}
 use Rattle.frs.proofs.Modules.{header-refused, header-empty, header-long, header-block}
 use borrow.Author.Needs.{needs}
 use Rattle.frs.proofs.module.open_module.Statement.{statement}

@@ -1,11 +1,10 @@
 -- `scan::modules` meets its contract. Assumes nothing.
 use native.Mathlib.Omega.{arith}
 use mathlib.Core.Path.{_≡_, refl, sym, _∙_}
-use Prim.Native.Nat.{_+_, _-_, _^_, _≤_, _<_}
+use Prim.Native.Nat.{_-_, _^_, _<_}
 use lib.ListN.{length}
 use Rattle.event.proofs.ChannelLaws.{blocked-none}
 use Rattle.event.proofs.Turns.{begin, finish}
-use Rattle.frs.proofs.Longwords.{denied, granted}
 use Rattle.frs.proofs.Scans.{Values, value-refused, value-taken, Modules, opened, opened-rows, opening-refused, empty-taken, block-refused, footer-refused, block-taken, from-start}
 use borrow.Author.Needs.{needs}
 use Rattle.frs.proofs.scan.modules.Statement.{statement}
@@ -61,7 +60,7 @@ blocks2-again-2 c =
     let v = c .before .before .before .before .loop .inv in
     let o = (opened (c .before .before .before .before .before .before .before .before .before .before .before .before .before .before .blocks2 .inv) (c .before .before .before .before .before .before .before .before .before .before .before .before .before .if1 .left) (λ j. omega (arith, c .before .before .before .before .before .before .before .before .before .before .before .before .before .before .before .before .shared-slice-known .given j)) (c .before .before .before .before .before .before .before .before .before .before .before .open-module .ensures .0) (c .before .before .before .before .before .before .before .opened3 .given .1)) in
     let e : c .before .before .before .before .loop .at ≡ c .before .before .before .before .before .before .before .opened3 .given .0 .1 .0 = omega (arith, v .0 .inside) in
-    rw e (block-taken (c .before .before .before .before .before .before .before .before .before .before .before .before .before .before .blocks2 .inv) (c .before .before .before .before .before .before .before .before .before .before .before .before .before .if1 .left) o (finish (v .0) (c .before .before .before .loop-test .left)) (rw e at (c .before .before .word2 .ensures)) (granted _ (c .before .is-footer .ensures) (c .if3 .left))
+    rw e (block-taken (c .before .before .before .before .before .before .before .before .before .before .before .before .before .before .blocks2 .inv) (c .before .before .before .before .before .before .before .before .before .before .before .before .before .if1 .left) o (finish (v .0) (c .before .before .before .loop-test .left)) (rw e at (c .before .before .word2 .ensures)) (sym (c .if3 .left) ∙ c .before .footer-fault .ensures)
     (c .before .before .before .before .before .with-channel2 .ensures) refl (opened-rows (c .before .before .before .before .before .before .before .before .before .before .before .before .before .before .blocks2 .inv) (c .before .before .before .before .before .before .before .before .before .before .before .before .before .if1 .left) (c .before .before .before .before .before .before .before .before .before .before .before .open-module .ensures .0) (c .before .before .before .before .before .before .before .opened3 .given .1) (c .before .before .before .before .before .before .before .before .before .before .before .open-module .ensures .1)) (v .0 .same ∙ c .before .before .before .before .before .before .before .before .before .before .before .open-module .kept .1 .1 .1 .0))
 
 returns : tie.Need-returns Inv-loop μ-loop Inv-blocks2 μ-blocks2
@@ -90,7 +89,7 @@ returns-4 c =
     let v = c .before .before .before .before .loop .inv in
     let o = (opened (c .before .before .before .before .before .before .before .before .before .before .before .before .before .before .blocks2 .inv) (c .before .before .before .before .before .before .before .before .before .before .before .before .before .if1 .left) (λ j. omega (arith, c .before .before .before .before .before .before .before .before .before .before .before .before .before .before .before .before .shared-slice-known .given j)) (c .before .before .before .before .before .before .before .before .before .before .before .open-module .ensures .0) (c .before .before .before .before .before .before .before .opened3 .given .1)) in
     let e : c .before .before .before .before .loop .at ≡ c .before .before .before .before .before .before .before .opened3 .given .0 .1 .0 = omega (arith, v .0 .inside) in
-    from-start (c .before .before .before .before .before .before .before .before .before .before .before .before .before .before .before .before .before .args .words .now) (c .before .before .before .before .before .before .before .before .before .before .before .before .before .before .before .before .before .args .start) (rw e (footer-refused (c .before .before .before .before .before .before .before .before .before .before .before .before .before .before .blocks2 .inv) (c .before .before .before .before .before .before .before .before .before .before .before .before .before .if1 .left) o (finish (v .0) (c .before .before .before .loop-test .left)) (rw e at (c .before .before .word2 .ensures)) _ (denied _ (c .before .is-footer .ensures) (c .if3 .taken))))
+    from-start (c .before .before .before .before .before .before .before .before .before .before .before .before .before .before .before .before .before .args .words .now) (c .before .before .before .before .before .before .before .before .before .before .before .before .before .before .before .before .before .args .start) (rw e (footer-refused (c .before .before .before .before .before .before .before .before .before .before .before .before .before .before .blocks2 .inv) (c .before .before .before .before .before .before .before .before .before .before .before .before .before .if1 .left) o (finish (v .0) (c .before .before .before .loop-test .left)) (rw e at (c .before .before .word2 .ensures)) _ (c .before .footer-fault .ensures) (c .if3 .taken)))
 
 pub modules-spec : {M : Type 1} → statement M
 modules-spec =

@@ -1,5 +1,4 @@
 -- `scan::scan` meets its contract. Assumes nothing.
-use mathlib.Core.Path.{_∙_}
 use Rattle.frs.proofs.Begun.{head-refused, modules-there, whole-event}
 use borrow.Author.Needs.{needs}
 use Rattle.frs.proofs.scan.scan.Statement.{statement}
