@@ -1,12 +1,13 @@
 -- Words and rows with fields, coded by what their fields print.
 -- Assumes nothing.
-use Prim.Native.Nat.{ℕ}
+use Prim.Native.Nat.{ℕ, _≤_}
 use mathlib.Core.Path.{_≡_, refl, ap}
 use mathlib.Core.Bool.{Bool, true, false, _&&_}
 use mathlib.Core.List.{List, [], _∷_, _++_, map}
-use lib.Dec.{T, eqb→eq, eqb-refl}
+use lib.Dec.{T, leb, leb→le, eqb→eq, eqb-refl}
+use borrow.Author.Tests.{le-leb}
 use Rattle.event.specs.Parser.{Parser, Test, Passed, prints, Goods, each, All, alone, several}
-use Rattle.event.specs.Words.{layout, exactly, anyWord, belowChecks, wordBelow}
+use Rattle.event.specs.Words.{layout, exactly, anyWord, between, belowChecks, wordBelow}
 use Rattle.event.proofs.Codes.{Codes, any, At, same, codes-element}
 use Rattle.event.proofs.Many.{codes-many-at}
 
@@ -28,6 +29,12 @@ codes-below n bound = codes-layout n (λ w. w) (λ w. w) (belowChecks n bound) (
 pub both : (a b : Bool) → T (a && b) → T a × T b
 both true b t = (tt, t)
 both false b t = absurd t
+
+pub bounds : (least most n : ℕ) → T (between least most n) → (least ≤ n) × (n ≤ most)
+bounds least most n t = let h = both (leb least n) (leb n most) t in (leb→le least n (h .0), leb→le n most (h .1))
+
+pub in-between : (least most n : ℕ) → least ≤ n → n ≤ most → T (between least most n)
+in-between least most n a b = rw (le-leb least n a, le-leb n most b) tt
 
 pub prints-map : {E St A : Type 0} (f : A → E) (next : St → A → St) (st : St) (xs : List A) → prints (λ t a. f a ∷ []) next st xs ≡ map f xs
 prints-map f next st [] = refl

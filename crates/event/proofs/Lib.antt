@@ -16,4 +16,5 @@ pub mod Loops
 pub mod Refusals
 pub mod RowCodes
 pub mod Trips
+pub mod ReadingRefusals
 pub mod WritingRefusals

@@ -4,9 +4,8 @@ use Prim.Native.Nat.{ℕ, _≤_}
 use mathlib.Core.Path.{_≡_, refl, ap, sym, _∙_, subst}
 use mathlib.Core.Logic.{_↔_}
 use mathlib.Core.List.{List}
-use lib.Dec.{T, leb, leb→le}
+use lib.Dec.{T}
 use lib.ListN.{length}
-use borrow.Author.Tests.{le-leb}
 use Rattle.event.specs.declared.Row.{Row}
 use Rattle.event.specs.Parser.{Parser, ended}
 use Rattle.event.specs.Words.{between}
@@ -16,7 +15,7 @@ use Rattle.event.specs.Writing.{fromElements}
 use Rattle.event.specs.Demands.{Sized, SomeEvent}
 use Rattle.event.proofs.Codes.{Codes, At}
 use Rattle.event.proofs.Ends.{Ends}
-use Rattle.event.proofs.Elements.{both}
+use Rattle.event.proofs.Elements.{bounds, in-between}
 use Rattle.event.proofs.RowCodes.{elements-iff}
 use Rattle.event.proofs.Whole.{printed, accepted, limited-iff}
 
@@ -41,17 +40,16 @@ module _ {Event : Type 0} (Formed : Event → Type 0) (words : Event → List �
       to : outcome (λ e. done (rows e)) (parser (length ws) 0 ws) ≡ done rs → Has ws rs
       to e =
           let h = accepted (c (length ws)) (λ v. done (rows v)) (ends (length ws)) ws rs e in
-          let b = both (leb smallest (length ws)) (leb (length ws) largest) (h .1 .0) in
+          let b = bounds smallest largest (length ws) (h .1 .0) in
           let w : words (h .0) ≡ ws = sym (counted (length ws) (h .0) (sym (ap length (h .2)) ∙ long (length ws) (h .0))) ∙ h .2 in
-          record { event = h .0; valid = record { formed = h .1 .1; size = subst (λ (l : List ℕ). length l ≤ largest) (sym w) (leb→le (length ws) largest (b .1)) }; itsWords = w; itsRows = cc (h .3) }
+          record { event = h .0; valid = record { formed = h .1 .1; size = subst (λ (l : List ℕ). length l ≤ largest) (sym w) (b .1) }; itsWords = w; itsRows = cc (h .3) }
 
       from : Has ws rs → outcome (λ e. done (rows e)) (parser (length ws) 0 ws) ≡ done rs
       from v =
           let e = v .event in
           let n = length (words e) in
-          let a = le-leb smallest n (least e (v .valid .formed)) in
-          let b = le-leb n largest (v .valid .size) in
-          let h = printed (c n) (λ x. done (rows x)) e (rw (a, b) tt, v .valid .formed) in
+          let b = in-between smallest largest n (least e (v .valid .formed)) (v .valid .size) in
+          let h = printed (c n) (λ x. done (rows x)) e (b, v .valid .formed) in
           let k : outcome (λ x. done (rows x)) (parser n 0 (words e)) ≡ done (rows e)
           = subst (λ (l : List ℕ). outcome (λ x. done (rows x)) (parser n 0 l) ≡ done (rows e)) (counted n e refl) h in
           rw (← v .itsWords, ← v .itsRows) k

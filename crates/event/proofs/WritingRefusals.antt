@@ -6,15 +6,15 @@ use mathlib.Core.Path.{_≡_, refl}
 use mathlib.Core.Logic.{_⊎_, inl, inr, ⊎-elim}
 use mathlib.Core.Bool.{Bool, true, false, cond}
 use mathlib.Core.List.{List, [], _∷_}
-use lib.Dec.{T, leb, eqb, leb→le}
+use lib.Dec.{T, eqb}
 use lib.ListN.{length}
 use Rattle.event.specs.declared.Row.{Row}
-use Rattle.event.specs.Parser.{Parser, Test, element, many}
+use Rattle.event.specs.Parser.{Parser, Test, element, times, many}
 use Rattle.event.specs.Words.{between}
 use Rattle.event.specs.Outcome.{done, refused, outcome, limited}
 use Rattle.event.specs.Writing.{rowsIn, fromElements}
-use Rattle.event.proofs.Elements.{both}
-use Rattle.event.proofs.Refusals.{Keeps, There, keeps-left, keeps-element, keeps-many-at, keeps-outcome}
+use Rattle.event.proofs.Elements.{bounds}
+use Rattle.event.proofs.Refusals.{Keeps, There, keeps-left, keeps-element, keeps-times, keeps-many-at, keeps-outcome}
 use Rattle.event.proofs.Whole.{limited-refused}
 
 -- Refusal n at place k of a writing of `count` rows: 20 at 0; 21 or 22 at a row or where they end; 23 with more words than the largest event has.
@@ -41,6 +41,10 @@ writes-many item next stop halt c st s = keeps-left
     (keeps-many-at item next stop halt (λ r. length r ≤ length s) (λ st t g l. keeps-left (c st t) (λ r e. (e, omega arith))) st s (omega arith))
     (λ r h. h .1)
 
+pub writes-times : {St A : Type 0} {count : ℕ} (item : St → Parser Row A) (next : St → A → St) → ((st : St) (s : List Row) → Takes count s (item st))
+    → (n : ℕ) (st : St) (s : List Row) → Writes count s (times item next n st)
+writes-times item next c n st s = keeps-times item next (λ k r. length r ≤ length s) (λ k st t g. keeps-left (c st t) (λ r e. omega arith)) n st s (omega arith)
+
 rows-counted : (xs : List ℕ) → length (rowsIn xs) ≡ length xs / 4
 rows-counted [] = refl
 rows-counted (k ∷ []) = refl
@@ -53,8 +57,8 @@ module _ {Event : Type 0} {p : Parser Row Event} (words : Event → List ℕ) (l
   of-rows e = ⊎-elim
       (λ r.
       let h = keeps-outcome (c (rowsIn xs)) (omega arith) words n k r in
-      let t = both (leb 21 n) (leb n 22) (h .0) in
-      inr (inl (leb→le 21 n (t .0), leb→le n 22 (t .1), omega (arith, rows-counted xs))))
+      let t = bounds 21 22 n (h .0) in
+      inr (inl (t .0, t .1, omega (arith, rows-counted xs))))
       (λ h. inr (inr h))
       (limited-refused 23 largest (outcome (λ e. done (words e)) (p 0 (rowsIn xs))) n k e)
 

@@ -13,14 +13,14 @@ use Rattle.event.specs.declared.Answer.{Answer}
 use Rattle.event.specs.declared.Answer.the-variants.{Accepted, Refused}
 use Rattle.event.specs.declared.StampOrder.{StampOrder}
 use Rattle.event.specs.Parser.{Result, ok, refuse, Parser, then, _>>_, require, ended, filled, several, each}
-use Rattle.event.specs.Words.{exactly}
+use Rattle.event.specs.Words.{exactly, between}
 use Rattle.event.specs.Scanning.{storeRows}
 use Rattle.event.proofs.Leads.{leads-part, then-then}
 use Rattle.event.proofs.Loops.{to-the-end}
 use Rattle.event.proofs.Impossible.{impossible}
 use Rattle.s800_layout.specs.Event.{Packet, runOf, Event, eventTag, stampTag, numberTag}
 use Rattle.s800_layout.specs.Layout.{version, packetRows, runRows, rows, smallestEvent, largestEvent}
-use Rattle.s800_layout.specs.Reading.{between, packetOf, packet, stampContent, stampPacket, numberContent, numberPacket, runUpTo, eventOf, eventParser}
+use Rattle.s800_layout.specs.Reading.{packetOf, packet, stampContent, stampPacket, numberContent, numberPacket, runUpTo, eventOf, eventParser}
 use Rattle.s800.specs.Head.{frameOf, headFault, headPlace, stampAt, numberAt, stampRows, numberRows, Begins}
 use Rattle.s800.proofs.Extent.{too-short, too-long, body}
 use Rattle.s800.proofs.Runs.{read-whole}

@@ -12,13 +12,14 @@ use borrow.Author.Tests.{le-leb, leb-true}
 use Rattle.event.specs.declared.Answer.the-variants.{Accepted}
 use Rattle.event.specs.declared.Row.{Row}
 use Rattle.event.specs.Parser.{refuse, then, give, each}
+use Rattle.event.specs.Words.{between}
 use Rattle.event.specs.Scanning.{storeRows, Scanned}
 use Rattle.event.proofs.Elements.{each-map}
 use Rattle.event.proofs.Leads.{leads-part, leads-done}
 use Rattle.event.proofs.Impossible.{impossible}
 use Rattle.s800_layout.specs.Event.{Datum, Form, Content, ChannelFormat}
 use Rattle.s800_layout.specs.Layout.{datumRow, packetRows}
-use Rattle.s800_layout.specs.Reading.{between, allowedLength, channelWords}
+use Rattle.s800_layout.specs.Reading.{allowedLength, channelWords}
 use Rattle.s800.specs.declared.Format.{Format}
 use Rattle.s800.specs.declared.Opened.{Opened}
 use Rattle.s800.specs.declared.Opened.the-variants.{Channels, Refused}

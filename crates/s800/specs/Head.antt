@@ -11,11 +11,12 @@ use Rattle.event.specs.declared.Answer.the-variants.{Accepted, Refused}
 use Rattle.event.specs.declared.Row.{Row}
 use Rattle.event.specs.declared.StampOrder.{StampOrder}
 use Rattle.event.specs.Parser.{refuse, ended, several, each}
+use Rattle.event.specs.Words.{between}
 use Rattle.event.specs.Rows.{row}
 use Rattle.event.specs.Scanning.{Leads}
 use Rattle.s800_layout.specs.Event.{Stamp, Number, eventTag, stampTag, numberTag}
 use Rattle.s800_layout.specs.Layout.{version, stampRow, numberRow, packetRows, rows, smallestEvent, largestEvent}
-use Rattle.s800_layout.specs.Reading.{between, packet, eventParser}
+use Rattle.s800_layout.specs.Reading.{packet, eventParser}
 
 -- refusals 1 to 4
 unfoldable pub frameOf : List ℕ → Answer

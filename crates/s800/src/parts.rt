@@ -8,7 +8,7 @@ use event::rows::store_row;
 ghost use mathlib.Core.Path.{_≡_};
 ghost use denote.Ref.{now};
 ghost use Rattle.event.specs.Rows.{row, storeRow};
-ghost use Rattle.s800_layout.specs.Reading.{between};
+ghost use Rattle.event.specs.Words.{between};
 ghost use Rattle.s800.specs.Channel.{timesFormat, energiesFormat, adcFormat};
 ghost use Rattle.s800.specs.Opening.{openedOf};
 

@@ -8,7 +8,7 @@ use lib.Dec.{T, eqb}
 use Rattle.event.specs.declared.Row.{Row}
 use Rattle.event.specs.declared.StampOrder.{StampOrder}
 use Rattle.event.specs.Parser.{Parser, Passed, ended, require, several, alone, All, each}
-use Rattle.event.specs.Words.{exactly}
+use Rattle.event.specs.Words.{exactly, between}
 use Rattle.event.specs.Writing.{ofKind}
 use Rattle.event.proofs.Codes.{Codes, any, At, nil, same, codes-require}
 use Rattle.event.proofs.Sequences.{codes-bind, codes-map}
@@ -16,7 +16,7 @@ use Rattle.event.proofs.Ends.{Ends, ends-bind, ends-map, ends-many}
 use Rattle.event.proofs.Elements.{codes-exactly, both, codes-several-at}
 use Rattle.s800_layout.specs.Event.{focalPlaneTime, intermediateCrdc, targetPin, intermediateTrack, intermediatePpac, objectScintillator, Form, trigger, timeOfFlight, scintillator, ionChamber, crdc, hodoscope, objectPin, vmeAdc, opaque, Packet, Run, end, plain, runOf, Stamp, Number, Event, eventTag, stampTag, tag}
 use Rattle.s800_layout.specs.Layout.{packetWords, runWords, version, packetsWords, packetRows, runRows, rows, smallestEvent, largestEvent, stampChecks, numberChecks, ValidContent, ValidRun, Formed}
-use Rattle.s800_layout.specs.Reading.{between, packet, stampPacket, numberPacket, runUpTo, eventOf, eventParser}
+use Rattle.s800_layout.specs.Reading.{packet, stampPacket, numberPacket, runUpTo, eventOf, eventParser}
 use Rattle.s800_layout.specs.Writing as Writing
 use Rattle.s800_layout.proofs.Words as Words
 use Rattle.s800_layout.proofs.Rows as Rows

@@ -9,10 +9,11 @@ use lib.Dec.{T}
 use lib.ListN.{length, length-append, length-map}
 use borrow.Author.Tests.{eq-eqb, le-leb}
 use Rattle.event.specs.Parser.{each}
+use Rattle.event.proofs.Elements.{in-between}
 use Rattle.event.proofs.Keys.{unused, at-most}
 use Rattle.s800_layout.specs.Event.{Datum, Pair, energies, hits, focalPlaneTime, intermediateCrdc, targetPin, intermediateTrack, intermediatePpac, objectScintillator, Form, trigger, timeOfFlight, scintillator, ionChamber, crdc, hodoscope, objectPin, vmeAdc, opaque, Content, samplesTag, anodeTag, tag, formOf, ChannelFormat, triggerTime, flightTime, pairEnergy, energy16, adcEnergy}
 use Rattle.s800_layout.specs.Layout.{framed, datumWord, pairWords, sampleWords, samplesWords, anodeWords, contentWords, ValidDatum, ValidData, ValidPair, ValidContent}
-use Rattle.s800_layout.specs.Reading.{between, even, allowedLength}
+use Rattle.s800_layout.specs.Reading.{even, allowedLength}
 
 pub form-back : (f : Form) → formOf (tag f) ≡ f
 form-back trigger = refl
@@ -37,9 +38,6 @@ few f xs v = rw (length-map xs (datumWord f)) (at-most (λ (d : Datum). d .chann
 twice : {A : Type 0} (f : A → List ℕ) → ((a : A) → length (f a) ≡ 2) → (xs : List A) → length (each f xs) ≡ length xs + length xs
 twice f two [] = refl
 twice f two (x ∷ xs) = omega (arith, length-append (f x) (each f xs), two x, twice f two xs)
-
-in-between : (low high n : ℕ) → low ≤ n → n ≤ high → T (between low high n)
-in-between low high n a b = rw (le-leb low n a, le-leb n high b) tt
 
 is-even : (n : ℕ) (b : Bool) → n % 2 ≡ 0 → T b → T (even n && b)
 is-even n b e t = rw (eq-eqb (n % 2) 0 e) t

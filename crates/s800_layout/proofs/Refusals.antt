@@ -3,24 +3,22 @@
 use Prim.Native.Nat.{ℕ, suc, _+_, _-_, _%_, _≤_, _<_}
 use native.Mathlib.Omega.{arith}
 use mathlib.Core.Path.{_≡_}
-use mathlib.Core.Logic.{_⊎_, inl, inr}
+use mathlib.Core.Logic.{_⊎_}
 use mathlib.Core.Bool.{Bool, true}
 use mathlib.Core.List.{List, [], _∷_}
 use lib.Dec.{T, leb, eqb, leb→le, eqb→eq}
 use lib.ListN.{length}
 use Rattle.event.specs.declared.StampOrder.{StampOrder}
 use Rattle.event.specs.Parser.{ok, Parser, ended, _>>_, alone}
-use Rattle.event.proofs.Codes.{true-T}
-use Rattle.event.specs.Words.{exactly}
+use Rattle.event.specs.Words.{exactly, between}
 use Rattle.event.specs.Outcome.{refused}
-use Rattle.event.proofs.Elements.{both}
-use Rattle.event.proofs.Refusals.{Keeps, either, keeps-give, keeps-left, keeps-bind, keeps-map, keeps-require, keeps-element, keeps-next, keeps-here, keeps-within, keeps-many, keeps-outcome, keeps-ok}
+use Rattle.event.proofs.Codes.{true-T}
+use Rattle.event.proofs.Elements.{both, bounds}
+use Rattle.event.proofs.Refusals.{Keeps, either, keeps-give, keeps-left, keeps-bind, keeps-map, keeps-require, keeps-element, keeps-next, keeps-here, keeps-within, keeps-many, keeps-ok}
+use Rattle.event.proofs.ReadingRefusals.{fills-words, reading-refused}
 use Rattle.s800_layout.specs.Event.{Content, Form, trigger, timeOfFlight, scintillator, ionChamber, crdc, hodoscope, objectPin, vmeAdc, opaque, stampTag, numberTag, energiesTag, samplesTag, anodeTag, ChannelFormat, triggerTime, flightTime, energy16, adcEnergy}
 use Rattle.s800_layout.specs.Layout.{rows, smallestEvent, largestEvent, channels, pairChannels}
-use Rattle.s800_layout.specs.Reading.{between, even, allowedLength, bodyOf, packetOf, inner, whole, datum, channelWords, pair, sample, samples, anode, registers, content, formWord, packetContent, packet, stampContent, numberContent, eventParser, reading}
-
-at-least : (low high n : ℕ) → T (between low high n) → low ≤ n
-at-least low high n t = leb→le low n (both (leb low n) (leb n high) t .0)
+use Rattle.s800_layout.specs.Reading.{even, allowedLength, bodyOf, packetOf, inner, whole, datum, channelWords, pair, sample, samples, anode, registers, content, formWord, packetContent, packet, stampContent, numberContent, eventParser, reading}
 
 -- Every place is before `bound`. A content of an allowed length finds all its words and leaves none: so there is no refusal past the words, and none by 0.
 module _ (bound : ℕ) where
@@ -51,7 +49,7 @@ module _ (bound : ℕ) where
       (λ r₃ z. omega arith)
 
   fills-channels : (f : ChannelFormat) (s : List ℕ) → Fills s (channelWords f)
-  fills-channels f s = keeps-many (datum f) channels (λ r. Unit {0}) (λ seen s u l. keeps-left (keeps-element (omega arith)) (λ r e. omega arith)) [] s tt
+  fills-channels f = fills-words (datum f) channels (λ seen s l. keeps-element (omega arith)) []
 
   fills-samples : (s : List ℕ) → length s % 2 ≡ 1 → Fills s samples
   fills-samples s l = keeps-next (omega arith) λ t r e. keeps-map _
@@ -71,23 +69,23 @@ module _ (bound : ℕ) where
 
   -- the content of a packet whose length n is allowed
   fills-content : (f : Form) (p n : ℕ) (s : List ℕ) → T (allowedLength f n) → p < bound → length s ≡ n - 2 → Fills s (content f p n)
-  fills-content trigger p n s a b l = keeps-next (omega (arith, at-least 3 7 n a)) λ w r e. keeps-map _ (fills-channels triggerTime r)
+  fills-content trigger p n s a b l = keeps-next (omega (arith, bounds 3 7 n a)) λ w r e. keeps-map _ (fills-channels triggerTime r)
   fills-content timeOfFlight p n s a b l = fills-channels flightTime s
   fills-content scintillator p n s a b l = keeps-many pair pairChannels (λ r. length r % 2 ≡ 0)
       (λ seen s g l. keeps-next (omega arith) λ e r h. keeps-next (omega arith) λ t r₁ h₁. keeps-give (omega arith)) [] s (omega (arith, eqb→eq, both (even n) (between 2 14 n) a))
-  fills-content ionChamber p n s a b l = let g = at-least 4 20 n a in
+  fills-content ionChamber p n s a b l = let g = bounds 4 20 n a in
       keeps-left (reads-inner (n - 2) energiesTag (channelWords energy16) (omega arith) (omega arith) (λ r h. fills-channels energy16 r)) (λ r e. omega arith)
   fills-content crdc p n s a b l =
       let h = both (even n) (leb 10 n) a in
       let g = leb→le 10 n (h .1) in
       keeps-next (omega arith) λ id r e. keeps-bind (reads-inner (n - 7) samplesTag samples (omega arith) (omega arith) (λ s k. fills-samples s (omega (arith, eqb→eq)))) λ x r₁ e₁.
       keeps-bind (reads-inner 4 anodeTag anode (omega arith) (omega arith) (λ s k. fills-anode s (omega arith))) λ y r₂ e₂. keeps-give (omega arith)
-  fills-content hodoscope p n s a b l = keeps-next (omega (arith, at-least 3 19 n a)) λ id r e. either (λ q. Fills r q) (eqb id 2)
+  fills-content hodoscope p n s a b l = keeps-next (omega (arith, bounds 3 19 n a)) λ id r e. either (λ q. Fills r q) (eqb id 2)
       (keeps-bind (keeps-require (eqb n 6) 7 p tt b) λ u r₁ e₁. keeps-map _ (fills-registers r₁ (omega (arith, eqb→eq))))
       (keeps-map _ (fills-channels energy16 r))
   fills-content objectPin p n s a b l = let g = eqb→eq n 3 a in keeps-left (keeps-element (omega arith)) (λ r e. omega arith)
-  fills-content vmeAdc p n s a b l = keeps-next (omega (arith, at-least 3 11 n a)) λ w r e. keeps-map _ (fills-channels adcEnergy r)
-  fills-content (opaque k) p n s a b l = keeps-many (λ u. whole) alone (λ r. Unit {0}) (λ u s g l. keeps-left (keeps-element (omega arith)) (λ r e. omega arith)) tt s tt
+  fills-content vmeAdc p n s a b l = keeps-next (omega (arith, bounds 3 11 n a)) λ w r e. keeps-map _ (fills-channels adcEnergy r)
+  fills-content (opaque k) p n s a b l = fills-words (λ u. whole) alone (λ u s l. keeps-element (omega arith)) tt s
 
   reads-packet : (s : List ℕ) → 1 ≤ length s → Reads s packet (λ r. length r < length s)
   reads-packet s l = keeps-left
@@ -103,18 +101,17 @@ module _ (bound : ℕ) where
 
   fills-event : (s : List ℕ) → 0 < bound → Fills s (eventParser (length s))
   fills-event s b = keeps-bind (keeps-require (between smallestEvent largestEvent (length s)) 1 0 tt b) λ u r e.
-      let g = at-least smallestEvent largestEvent (length s) (e .0) in
+      let g = bounds smallestEvent largestEvent (length s) (e .0) in
       keeps-next (omega arith) λ u r₁ e₁. keeps-next (omega arith) λ u r₂ e₂. keeps-next (omega arith) λ u r₃ e₃.
       keeps-bind (reads-first stampTag 6 stampContent (λ s l. fills-stamp s (omega arith)) r₃ (omega arith)) λ st r₄ e₄.
       keeps-bind (reads-first numberTag 5 numberContent (λ s l. fills-number s (omega arith)) r₄ (omega arith)) λ k r₅ e₅.
       keeps-map _ (keeps-map _ (keeps-many (λ u. packet) alone (λ r. Unit {0}) (λ u s g l. keeps-left (reads-packet s l) (λ r e. (e, tt))) tt r₅ tt))
 
 pub refusals : (o : StampOrder) (ws : List ℕ) (n k : ℕ) → reading o ws ≡ refused n k → (1 ≤ n) × (n ≤ 11) × ((k < length ws) ⊎ (k ≡ 0))
-refusals o [] n k e = let u : n ≡ 1 = cc in (omega arith, omega arith, inr (cc))
-refusals o (w ∷ ws) n k e =
-    let h = keeps-outcome (fills-event (suc (length ws)) (w ∷ ws) (omega arith)) (omega arith) (rows o) n k e in
-    let t = both (leb 1 n) (leb n 11) (h .0) in
-    (leb→le 1 n (t .0), leb→le n 11 (t .1), inl (h .1))
+refusals o ws n k e =
+    let h = reading-refused eventParser (rows o) fills-event ws n k e in
+    let t = bounds 1 11 n (h .0) in
+    (t .0, t .1, h .1)
 
 -- what a packet holds fills it
 empty : (r : List ℕ) → length r ≡ 0 → T (ended r)

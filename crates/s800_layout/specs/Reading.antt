@@ -10,13 +10,10 @@ use lib.ListN.{length}
 use Rattle.event.specs.declared.Row.{Row}
 use Rattle.event.specs.declared.StampOrder.{StampOrder}
 use Rattle.event.specs.Parser.{Parser, ended, _>>=_, _>>_, give, here, require, within, many, several}
-use Rattle.event.specs.Words.{layout, exactly, anyWord, belowChecks, wordBelow}
+use Rattle.event.specs.Words.{layout, exactly, anyWord, between, belowChecks, wordBelow}
 use Rattle.event.specs.Outcome.{Outcome, done, outcome, limited}
 use Rattle.s800_layout.specs.Event.{Datum, Pair, SampleHead, SampleDatum, Sample, Samples, Anode, Registers, Hodoscope, energies, hits, Form, trigger, timeOfFlight, scintillator, ionChamber, crdc, hodoscope, objectPin, vmeAdc, opaque, Content, Packet, Run, runOf, Stamp, Number, Event, eventTag, stampTag, numberTag, energiesTag, samplesTag, anodeTag, tag, formOf, hitsId, patternBound, ChannelFormat, triggerTime, flightTime, pairEnergy, energy16, adcEnergy}
 use Rattle.s800_layout.specs.Layout.{channelWord, datumWord, sampleHeadWord, sampleDatumWord, version, rows, smallestEvent, largestEvent, idChecks, datumChecks, sampleHeadChecks, sampleDatumChecks, channels, pairChannels}
-
-abbrev pub between : ℕ → ℕ → ℕ → Bool
-between low high n = leb low n && leb n high
 
 abbrev pub even : ℕ → Bool
 even n = eqb (n % 2) 0
