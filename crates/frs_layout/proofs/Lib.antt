@@ -5,5 +5,7 @@ pub mod Reading
 pub mod Writing
 pub mod Width
 pub mod Edges
-pub mod Rooms
+pub mod Refusals
 pub mod EdgesOfWriting
+pub mod WritingRefusals
+pub mod Rooms
