@@ -53,7 +53,8 @@ written-back d o ws rs e = writing-iff d o (flat rs) ws .1 (rs, refl, reading-if
 pub read-back : (d : Dialect) (o : StampOrder) (xs ws : List ℕ) → writing d o xs ≡ done ws → (rs : List Row) × (flat rs ≡ xs) × (reading d o ws ≡ done rs)
 read-back d o xs ws e = let h = writing-iff d o xs ws .0 e in (h .0, h .1, reading-iff d o ws (h .0) .1 (h .2))
 
--- Demand 3. Acceptable is what a reading accepts, given room enough, in either order: that each word is in the width follows.
+-- Demand 3.
+
 words-fit : (d : Dialect) (e : Event d) → Valid d e → All (λ w. T (ltb w (2 ^ width d))) (words d e)
 words-fit S = WidthS.words-fit
 words-fit F = WidthF.words-fit
@@ -61,6 +62,7 @@ words-fit F = WidthF.words-fit
 accepted : (d : Dialect) (o : StampOrder) (ws : List ℕ) (a : AcceptableIn d ws) → reading d o ws ≡ done (rows d o (a .event))
 accepted d o ws a = reading-iff d o ws (rows d o (a .event)) .1 (record { event = a .event; valid = a .valid; itsWords = a .itsWords; itsRows = refl })
 
+-- Acceptable is what a reading accepts, given room enough, in either order: that each word is in the width follows.
 pub acceptable-iff : (d : Dialect) (o : StampOrder) (ws : List ℕ) → AcceptableIn d ws ↔ ((rs : List Row) × (reading d o ws ≡ done rs))
 acceptable-iff d o ws = (λ a. (rows d o (a .event), accepted d o ws a), from)
   where
@@ -88,7 +90,7 @@ by-rows S o = by-parser atStampRowS (EventS.codes-run o) (AcceptableIn S) (rowsO
 by-rows F o = by-parser atStampRowF RowsF.codes-run (AcceptableIn F) (rowsOf F o) (words F)
     (λ ws a. (a .event, a .valid .formed, sym (rows-of F o ws a .0), a .itsWords)) tt (λ e s. tt) (λ e. omega arith)
 
--- Two lists of acceptable events, the empty list among them, join to the same words exactly when they are the same list, and to the same rows exactly then.
+-- Two lists of acceptable events, of which either may be empty, join to the same words exactly when they are the same list, and to the same rows exactly then.
 pub same-runs : (d : Dialect) (o : StampOrder) (es fs : List (List ℕ)) → All (AcceptableIn d) es → All (AcceptableIn d) fs
     → ((join (λ ws. ws) es ≡ join (λ ws. ws) fs) ↔ (es ≡ fs)) × ((join (rowsOf d o) es ≡ join (rowsOf d o) fs) ↔ (es ≡ fs))
 same-runs d o es fs a b = (join-iff (by-words d) es fs a b, join-iff (by-rows d o) es fs a b)
