@@ -107,9 +107,9 @@ module _ (ws : List ℕ) (at : ℕ) where
               ne-eqb footer 0x2c000000 z,
             ))
 
-            pub pattern-read : {k : ℕ} {before after : List ℕ} → footer ≡ 0x2c000000 → k ≤ at → after ≡ storeRow before k (patternRow unit)
-                → PartOf (ifAny patternRows) (optionally atPattern patternUnit at (drop at ws)) ws k before after (Read (at + 4) (k + 1))
-            pattern-read {k} z f q =
+            pub pattern-read : {k a b : ℕ} {before after : List ℕ} → footer ≡ 0x2c000000 → k ≤ at → a ≡ register → b ≡ multiplicity
+                → after ≡ storeRow before k (patternRow (record { register = a % 2 ^ 16; multiplicity = b % 2 ^ 16 })) → PartOf (ifAny patternRows) (optionally atPattern patternUnit at (drop at ws)) ws k before after (Read (at + 4) (k + 1))
+            pattern-read {k} z f p q stored =
                 let last : suc (at + 3) ≡ at + 4 = omega arith in
                 record {
                   part = record {
@@ -127,7 +127,7 @@ module _ (ws : List ℕ) (at : ℕ) where
                     inside = inside;
                     few = omega arith;
                     counted = refl;
-                    stored = q;
+                    stored = stored ∙ rw (p, q);
                   };
                 }
 

@@ -28,7 +28,7 @@ returns-7 : tie.Need-returns-7
 returns-7 c = part-refused (c .refuse5 .ensures) (pattern-footer (c .before .before .before .before .before .before .before .before .before .before .before .before .before .before .before .before .before .args .words .now) (c .before .before .before .before .before .before .before .before .before .before .before .before .before .before .before .before .before .args .at) (c .before .before .before .before .before .before .before .before .before .before .before .before .before .before .if1 .left) (sym (c .before .before .before .before .before .before .before .before .before .before .before .before .before .word .ensures) ∙ c .before .before .before .before .before .before .before .before .before .before .if3 .left) (omega (arith, c .before .before .before .before .before .before .before .before .before .if4 .left)) (granted _ (rw (c .before .before .before .before .before .before .before .before .word2 .ensures) at (c .before .before .before .before .before .before .before .is-under .ensures)) (c .before .before .before .before .before .before .if5 .left)) (granted _ (rw (c .before .before .before .before .before .word3 .ensures) at (c .before .before .before .before .is-under2 .ensures)) (c .before .before .before .if6 .left)) (λ e. c .before .if7 .taken (c .before .before .word4 .ensures ∙ e)))
 
 returns-8 : tie.Need-returns-8
-returns-8 c = pattern-read (c .before .before .before .before .before .before .before .before .before .before .before .before .before .before .before .before .before .before .before .before .args .words .now) (c .before .before .before .before .before .before .before .before .before .before .before .before .before .before .before .before .before .before .before .before .args .at) (c .before .before .before .before .before .before .before .before .before .before .before .before .before .before .before .before .before .if1 .left) (sym (c .before .before .before .before .before .before .before .before .before .before .before .before .before .before .before .before .word .ensures) ∙ c .before .before .before .before .before .before .before .before .before .before .before .before .before .if3 .left) (omega (arith, c .before .before .before .before .before .before .before .before .before .before .before .before .if4 .left)) (granted _ (rw (c .before .before .before .before .before .before .before .before .before .before .before .word2 .ensures) at (c .before .before .before .before .before .before .before .before .before .before .is-under .ensures)) (c .before .before .before .before .before .before .before .before .before .if5 .left)) (granted _ (rw (c .before .before .before .before .before .before .before .before .word3 .ensures) at (c .before .before .before .before .before .before .before .is-under2 .ensures)) (c .before .before .before .before .before .before .if6 .left)) (sym (c .before .before .before .before .before .word4 .ensures) ∙ c .before .before .before .before .if7 .left) (search needs) (c .before .before .store-row .ensures ∙ rw (c .before .before .before .before .before .before .before .before .before .before .before .word2 .ensures, c .before .before .before .before .before .before .before .before .word3 .ensures))
+returns-8 c = pattern-read (c .before .before .before .before .before .before .before .before .before .before .before .before .before .before .before .before .before .before .before .before .args .words .now) (c .before .before .before .before .before .before .before .before .before .before .before .before .before .before .before .before .before .before .before .before .args .at) (c .before .before .before .before .before .before .before .before .before .before .before .before .before .before .before .before .before .if1 .left) (sym (c .before .before .before .before .before .before .before .before .before .before .before .before .before .before .before .before .word .ensures) ∙ c .before .before .before .before .before .before .before .before .before .before .before .before .before .if3 .left) (omega (arith, c .before .before .before .before .before .before .before .before .before .before .before .before .if4 .left)) (granted _ (rw (c .before .before .before .before .before .before .before .before .before .before .before .word2 .ensures) at (c .before .before .before .before .before .before .before .before .before .before .is-under .ensures)) (c .before .before .before .before .before .before .before .before .before .if5 .left)) (granted _ (rw (c .before .before .before .before .before .before .before .before .word3 .ensures) at (c .before .before .before .before .before .before .before .is-under2 .ensures)) (c .before .before .before .before .before .before .if6 .left)) (sym (c .before .before .before .before .before .word4 .ensures) ∙ c .before .before .before .before .if7 .left) (search needs) (c .before .before .before .before .before .before .before .before .before .before .before .word2 .ensures) (c .before .before .before .before .before .before .before .before .word3 .ensures) (c .before .before .store-row .ensures)
 
 pub pattern-unit-spec : {M : Type 1} → statement M
 pattern-unit-spec =
