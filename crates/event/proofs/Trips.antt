@@ -59,7 +59,7 @@ module _ {Event : Type 0} (Formed : Event → Type 0) (words : Event → List �
     abbrev writingRows : List Row → Outcome ℕ
     writingRows rs = limited 23 largest (outcome (λ e. done (words e)) (parser 0 rs))
 
-    pub writes-rows : (ws : List ℕ) (rs : List Row) → (writingRows rs ≡ done ws) ↔ Has ws rs
+    writes-rows : (ws : List ℕ) (rs : List Row) → (writingRows rs ≡ done ws) ↔ Has ws rs
     writes-rows ws rs = (to, from)
       where
         fits : (writingRows rs ≡ done ws) ↔ ((outcome (λ e. done (words e)) (parser 0 rs) ≡ done ws) × (length ws ≤ largest))

@@ -3,7 +3,7 @@
 use Prim.Native.Nat.{ℕ, suc, _/_, _%_, _≤_, _<_}
 use native.Mathlib.Omega.{arith}
 use mathlib.Core.Path.{_≡_, refl}
-use mathlib.Core.Logic.{_⊎_, inl, inr, ⊎-elim}
+use mathlib.Core.Logic.{inl, inr, ⊎-elim}
 use mathlib.Core.Bool.{Bool, true, false, cond}
 use mathlib.Core.List.{List, [], _∷_}
 use lib.Dec.{T, eqb}
@@ -12,14 +12,10 @@ use Rattle.event.specs.declared.Row.{Row}
 use Rattle.event.specs.Parser.{Parser, Test, element, times, many}
 use Rattle.event.specs.Words.{between}
 use Rattle.event.specs.Outcome.{done, refused, outcome, limited}
-use Rattle.event.specs.Writing.{rowsIn, fromElements}
+use Rattle.event.specs.Writing.{rowsIn, fromElements, RefusedAt}
 use Rattle.event.proofs.Elements.{bounds}
 use Rattle.event.proofs.Refusals.{Keeps, There, keeps-left, keeps-element, keeps-times, keeps-many-at, keeps-outcome}
 use Rattle.event.proofs.Whole.{limited-refused}
-
--- Refusal n at place k of a writing of `count` rows: 20 at 0; 21 or 22 at a row or where they end; 23 with more words than the largest event has.
-abbrev pub RefusedAt : (largest count n k : ℕ) → Type 0
-RefusedAt largest count n k = ((n ≡ 20) × (k ≡ 0)) ⊎ (((21 ≤ n) × (n ≤ 22) × (k ≤ count)) ⊎ ((n ≡ 23) × (largest < k)))
 
 -- the refusals of a row
 abbrev ofRow : ℕ → Bool

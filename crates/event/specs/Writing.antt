@@ -1,6 +1,8 @@
 -- Writing: rows with fields as the input of a parser, rows out of the elements of a buffer, and the refusals of every dialect.
 -- Assumes nothing.
-use Prim.Native.Nat.{ℕ, _%_}
+use Prim.Native.Nat.{ℕ, _%_, _≤_, _<_}
+use mathlib.Core.Path.{_≡_}
+use mathlib.Core.Logic.{_⊎_}
 use mathlib.Core.Bool.{Bool, true, cond, _&&_}
 use mathlib.Core.List.{List, [], _∷_}
 use lib.Dec.{eqb}
@@ -36,3 +38,7 @@ rowsIn (k ∷ u ∷ c ∷ d ∷ xs) = row k u c d ∷ rowsIn xs
 -- 20: the elements are not a multiple of four
 abbrev pub fromElements : (List Row → Outcome ℕ) → List ℕ → Outcome ℕ
 fromElements writingRows xs = cond (eqb (length xs % 4) 0) (writingRows (rowsIn xs)) (refused 20 0)
+
+-- Refusal n at place k of a writing of `count` rows: 20 at 0; 21 or 22 at a row or where they end; 23 with more words than the largest event has.
+abbrev pub RefusedAt : (largest count n k : ℕ) → Type 0
+RefusedAt largest count n k = ((n ≡ 20) × (k ≡ 0)) ⊎ (((21 ≤ n) × (n ≤ 22) × (k ≤ count)) ⊎ ((n ≡ 23) × (largest < k)))

@@ -10,8 +10,9 @@ use Rattle.event.specs.declared.Row.{Row}
 use Rattle.event.specs.Parser.{ended, optionally, All}
 use Rattle.event.specs.Words.{between}
 use Rattle.event.specs.Outcome.{refused}
+use Rattle.event.specs.Writing.{RefusedAt}
 use Rattle.event.proofs.Refusals.{keeps-give, keeps-left, keeps-bind, keeps-map, keeps-next, keeps-optionally}
-use Rattle.event.proofs.WritingRefusals.{RefusedAt, Writes, Takes, takes-row, writes-times, writes-many, writing-refused}
+use Rattle.event.proofs.WritingRefusals.{Writes, Takes, takes-row, writes-times, writes-many, writing-refused}
 use Rattle.frs_layout.specs.Layout.{words, largestEvent, channels, geos}
 use Rattle.frs_layout.specs.Writing.{scalerAt, nextIndex, scaler, patternUnit, atPattern, Header, bare, full, headerOf, headerChecks, value, body, oneModule, eventRowsUpTo, writing}
 

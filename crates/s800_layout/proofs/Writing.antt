@@ -8,14 +8,11 @@ use Rattle.event.specs.declared.Row.{Row}
 use Rattle.event.specs.declared.StampOrder.{StampOrder}
 use Rattle.event.specs.Outcome.{done}
 use Rattle.event.specs.Rows.{flat}
-use Rattle.event.proofs.Trips.{writes-rows, writes}
+use Rattle.event.proofs.Trips.{writes}
 use Rattle.s800_layout.specs.Layout.{words, rows, largestEvent, Formed}
-use Rattle.s800_layout.specs.Writing.{writingRows, writing}
+use Rattle.s800_layout.specs.Writing.{writing}
 use Rattle.s800_layout.proofs.Event.{codes-one, ends-one}
 use Rattle.s800_layout.proofs.Reading.{SEvent}
-
-pub writing-rows-iff : (o : StampOrder) (ws : List ℕ) (rs : List Row) → (writingRows o rs ≡ done ws) ↔ SEvent o ws rs
-writing-rows-iff o = writes-rows Formed words (rows o) largestEvent (codes-one o) (ends-one o)
 
 -- Demand 2 for a writing: accepted exactly when the elements are the rows of some valid event, whose words are the words given.
 pub writing-iff : (o : StampOrder) (xs ws : List ℕ) → (writing o xs ≡ done ws) ↔ ((rs : List Row) × (flat rs ≡ xs) × SEvent o ws rs)

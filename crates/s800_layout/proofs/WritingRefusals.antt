@@ -10,9 +10,10 @@ use Rattle.event.specs.declared.Row.{Row}
 use Rattle.event.specs.declared.StampOrder.{StampOrder}
 use Rattle.event.specs.Parser.{ended, alone}
 use Rattle.event.specs.Outcome.{refused}
+use Rattle.event.specs.Writing.{RefusedAt}
 use Rattle.event.specs.Writing.{atKind}
 use Rattle.event.proofs.Refusals.{either, keeps-give, keeps-left, keeps-bind, keeps-map, keeps-next}
-use Rattle.event.proofs.WritingRefusals.{RefusedAt, Writes, Takes, takes-row, writes-many, writing-refused}
+use Rattle.event.proofs.WritingRefusals.{Writes, Takes, takes-row, writes-many, writing-refused}
 use Rattle.s800_layout.specs.Event.{Form, trigger, timeOfFlight, scintillator, ionChamber, crdc, hodoscope, objectPin, vmeAdc, opaque, hitsId, ChannelFormat, triggerTime, flightTime, energy16, adcEnergy}
 use Rattle.s800_layout.specs.Layout.{words, largestEvent, channels, pairChannels}
 use Rattle.s800_layout.specs.Writing.{atPacket, datumBelow, datum, channelRows, pair, sample, samples, content, packet, stampPacket, numberPacket, eventRowsParser, writing}
