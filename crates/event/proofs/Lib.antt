@@ -18,3 +18,4 @@ pub mod RowCodes
 pub mod Trips
 pub mod ReadingRefusals
 pub mod WritingRefusals
+pub mod Vectors

@@ -1,6 +1,6 @@
 -- Readings of dialect F at the edges of its tables, computed. The expected outcomes are document 01's.
 -- Assumes nothing.
-use Prim.Native.Nat.{ℕ, zero, suc, _+_, _*_, _^_}
+use Prim.Native.Nat.{ℕ, _+_, _*_, _^_}
 use mathlib.Core.Path.{_≡_, refl}
 use mathlib.Core.List.{List, [], _∷_, _++_, map}
 use lib.ListN.{take, set, replicate}
@@ -8,6 +8,7 @@ use Rattle.event.specs.declared.Row.{Row}
 use Rattle.event.specs.Outcome.{Outcome, done, refused}
 use Rattle.event.specs.Parser.{each}
 use Rattle.event.specs.Rows.{row}
+use Rattle.event.proofs.Vectors.{rising, risingRows}
 use Rattle.frs_layout.specs.Reading.{reading}
 
 pub record Vector : Type 0 where
@@ -44,25 +45,15 @@ okScaler more rows = vector (s more) (done (row 16 0x17ff 0x38e1 0x0563 ∷ rows
 abbrev noScaler : List ℕ → (number place : ℕ) → Vector
 noScaler more n k = vector (s more) (refused n k)
 
--- n words from w on, each larger by d than the one before
-abbrev rising : (w d n : ℕ) → List ℕ
-rising w d zero = []
-rising w d (suc n) = w ∷ rising (w + d) d n
-
--- n rows of a unit from channel c and datum x on, each larger by 1 in both than the one before
-abbrev risingRows : (kind unit c x n : ℕ) → List Row
-risingRows k u c x zero = []
-risingRows k u c x (suc n) = row k u c x ∷ risingRows k u (suc c) (suc x) n
-
 -- every GEO but 5 and 6
-abbrev geos : List ℕ
+abbrev pub geos : List ℕ
 geos = rising 0 1 5 ++ rising 7 1 25
 
 -- a module with all of its channels, 100 and on, and its rows; a GEO stands in bits 31-27
-abbrev whole : (g : ℕ) → List ℕ
+abbrev pub whole : (g : ℕ) → List ℕ
 whole g = (g * 2 ^ 27 + 0x02000020) ∷ (rising (g * 2 ^ 27 + 0x00000064) 0x00010001 32 ++ ((g * 2 ^ 27 + 0x04000009) ∷ []))
 
-abbrev wholeRows : (g : ℕ) → List Row
+abbrev pub wholeRows : (g : ℕ) → List Row
 wholeRows g = row 21 g 32 9 ∷ risingRows 22 g 0 100 32
 
 -- a module with channel 0 alone
@@ -70,10 +61,10 @@ abbrev one : (g : ℕ) → List ℕ
 one g = (g * 2 ^ 27 + 0x02000001) ∷ g * 2 ^ 27 ∷ (g * 2 ^ 27 + 0x04000000) ∷ []
 
 -- a pattern unit, and its row
-abbrev unit : List ℕ
+abbrev pub unit : List ℕ
 unit = 0x2a000002 ∷ 0x28001234 ∷ 0x28010003 ∷ 0x2c000000 ∷ []
 
-abbrev unitRow : Row
+abbrev pub unitRow : Row
 unitRow = row 19 5 3 0x1234
 
 -- the largest event: 4 + 34 + 4 + 30 × 34 words

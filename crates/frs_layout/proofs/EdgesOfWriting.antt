@@ -1,6 +1,6 @@
 -- Writings of dialect F at the edges of its tables, computed. The expected outcomes are document 01's. (23 is none of them: 4 + 34 + 4 + 30 × 34 longwords are the most that rows can ask for.)
 -- Assumes nothing.
-use Prim.Native.Nat.{ℕ, zero, suc, _+_, _*_, _^_}
+use Prim.Native.Nat.{ℕ, _+_, _*_, _^_}
 use mathlib.Core.Path.{_≡_, refl}
 use mathlib.Core.List.{List, [], _∷_, _++_, map}
 use lib.ListN.{take, set, replicate}
@@ -8,7 +8,9 @@ use Rattle.event.specs.declared.Row.{Row}
 use Rattle.event.specs.Outcome.{Outcome, done, refused}
 use Rattle.event.specs.Parser.{each}
 use Rattle.event.specs.Rows.{row, flat}
+use Rattle.event.proofs.Vectors.{rising, risingRows}
 use Rattle.frs_layout.specs.Writing.{writing}
+use Rattle.frs_layout.proofs.Edges.{geos, whole, wholeRows, unit, unitRow}
 
 pub record Vector : Type 0 where
   pub elements : List ℕ
@@ -40,37 +42,9 @@ okScaler more words = vector (flat (row 16 0x17ff 0x38e1 0x0563 ∷ more)) (done
 abbrev noScaler : List Row → (number place : ℕ) → Vector
 noScaler more n k = vector (flat (row 16 0x17ff 0x38e1 0x0563 ∷ more)) (refused n k)
 
--- n words from w on, each larger by d than the one before
-abbrev rising : (w d n : ℕ) → List ℕ
-rising w d zero = []
-rising w d (suc n) = w ∷ rising (w + d) d n
-
--- n rows of a unit from channel c and datum x on, each larger by 1 in both than the one before
-abbrev risingRows : (kind unit c x n : ℕ) → List Row
-risingRows k u c x zero = []
-risingRows k u c x (suc n) = row k u c x ∷ risingRows k u (suc c) (suc x) n
-
--- every GEO but 5 and 6
-abbrev geos : List ℕ
-geos = rising 0 1 5 ++ rising 7 1 25
-
--- a module with all of its channels, 100 and on: its rows and its longwords; a GEO stands in bits 31-27
-abbrev wholeRows : (g : ℕ) → List Row
-wholeRows g = row 21 g 32 9 ∷ risingRows 22 g 0 100 32
-
-abbrev whole : (g : ℕ) → List ℕ
-whole g = (g * 2 ^ 27 + 0x02000020) ∷ (rising (g * 2 ^ 27 + 0x00000064) 0x00010001 32 ++ ((g * 2 ^ 27 + 0x04000009) ∷ []))
-
 -- a module with channel 0 alone
 abbrev one : (g : ℕ) → List Row
 one g = row 21 g 1 0 ∷ row 22 g 0 0 ∷ []
-
--- a pattern unit's row, and its longwords
-abbrev unitRow : Row
-unitRow = row 19 5 3 0x1234
-
-abbrev unit : List ℕ
-unit = 0x2a000002 ∷ 0x28001234 ∷ 0x28010003 ∷ 0x2c000000 ∷ []
 
 -- the largest event
 abbrev largestRows : List Row

@@ -3,27 +3,9 @@
 use Prim.Native.Nat.{ℕ}
 use mathlib.Core.Path.{_≡_, refl}
 use mathlib.Core.List.{List, [], _∷_, _++_, map}
-use lib.ListN.{length, replicate}
-use Rattle.event.specs.declared.Answer.{Answer}
 use Rattle.event.specs.declared.Answer.the-variants.{Accepted, Refused}
-use Rattle.event.specs.Outcome.{answerOf, given, overlaid}
-use Rattle.event.specs.Rows.{flat, room}
+use Rattle.event.proofs.Vectors.{readInto, nines, RoomCase, case}
 use Rattle.frs_layout.specs.Reading.{readingInto}
-
--- what comes in, and what stands afterwards
-pub record Lent : Type 0 where
-  pub words : List ℕ
-  pub buffer : List ℕ
-
-pub record Left : Type 0 where
-  pub answer : Answer
-  pub buffer : List ℕ
-
-abbrev read : Lent → Left
-read l = record {
-  answer = answerOf (readingInto (room (length (l .buffer))) (l .words));
-  buffer = overlaid (flat (given (readingInto (room (length (l .buffer))) (l .words)))) (l .buffer);
-}
 
 -- document 01's case 11, and case 11 with another GEO in its last module's datum, which is refused at 8
 abbrev f : List ℕ
@@ -36,18 +18,7 @@ bad = 0x00000200 ∷ 0x00f717ff ∷ 0x01f738e1 ∷ 0x02f70563 ∷ 0x32000001 ∷
 abbrev elements : List ℕ
 elements = 16 ∷ 0x17ff ∷ 0x38e1 ∷ 0x0563 ∷ 17 ∷ 6 ∷ 1 ∷ 0 ∷ 18 ∷ 6 ∷ 0 ∷ 42 ∷ 21 ∷ 13 ∷ 1 ∷ 5 ∷ 22 ∷ 13 ∷ 4 ∷ 97 ∷ []
 
--- a buffer of n elements
-abbrev nines : ℕ → List ℕ
-nines n = replicate n 9
-
-pub record Case : Type 0 where
-  pub lent : Lent
-  pub left : Left
-
-abbrev case : List ℕ → List ℕ → Answer → List ℕ → Case
-case ws b a after = record { lent = record { words = ws; buffer = b }; left = record { answer = a; buffer = after } }
-
-abbrev cases : List Case
+abbrev cases : List RoomCase
 cases =
     -- 12, place the rows needed, the buffer as it was
     case f [] (Refused 12 5) []
@@ -66,5 +37,5 @@ cases =
     ∷ case bad (nines 40) (Refused 10 8) (nines 40)
     ∷ []
 
-pub rooms : map (λ (c : Case). read (c .lent)) cases ≡ map (λ (c : Case). c .left) cases
+pub rooms : map (λ (c : RoomCase). readInto readingInto (c .lent)) cases ≡ map (λ (c : RoomCase). c .left) cases
 rooms = refl

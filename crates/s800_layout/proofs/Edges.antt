@@ -9,6 +9,7 @@ use Rattle.event.specs.declared.StampOrder.{StampOrder}
 use Rattle.event.specs.declared.StampOrder.the-variants.{Crossed, Rising}
 use Rattle.event.specs.Outcome.{Outcome, done, refused}
 use Rattle.event.specs.Rows.{row}
+use Rattle.event.proofs.Vectors.{rising, risingRows}
 use Rattle.s800_layout.specs.Reading.{reading}
 
 pub record Vector : Type 0 where
@@ -34,16 +35,6 @@ no more n k = vector Crossed (m more) (refused n k)
 -- M with the word at a place exchanged is refused
 abbrev noAt : (at word : ℕ) → (number place : ℕ) → Vector
 noAt i w n k = vector Crossed (set (m []) i w) (refused n k)
-
--- n words from w on, each larger by d than the one before
-abbrev rising : (w d n : ℕ) → List ℕ
-rising w d zero = []
-rising w d (suc n) = w ∷ rising (w + d) d n
-
--- n rows from channel c and datum x on, each larger by 1 in both than the one before
-abbrev risingRows : (kind c x n : ℕ) → List Row
-risingRows k c x zero = []
-risingRows k c x (suc n) = row k 0 c x ∷ risingRows k (suc c) (suc x) n
 
 -- n times the same words
 abbrev times : ℕ → List ℕ → List ℕ
@@ -102,7 +93,7 @@ abbrev trigger : List Vector
 trigger =
     no (2 ∷ 0x5801 ∷ []) 7 14
     ∷ ok (3 ∷ 0x5801 ∷ 0x001f ∷ []) (row 1 0x5801 0 0 ∷ row 4 0 0 31 ∷ [])
-    ∷ ok (7 ∷ 0x5801 ∷ 0 ∷ rising 0x8064 0x1001 4) (row 1 0x5801 0 0 ∷ row 4 0 0 0 ∷ risingRows 5 8 100 4)
+    ∷ ok (7 ∷ 0x5801 ∷ 0 ∷ rising 0x8064 0x1001 4) (row 1 0x5801 0 0 ∷ row 4 0 0 0 ∷ risingRows 5 0 8 100 4)
     ∷ no (8 ∷ 0x5801 ∷ 0 ∷ rising 0x8064 0x1001 5) 7 14
     ∷ no (3 ∷ 0x5801 ∷ 0x0020 ∷ []) 10 16 ∷ no (3 ∷ 0x5801 ∷ 0x8000 ∷ []) 10 16
     ∷ no (4 ∷ 0x5801 ∷ 1 ∷ 0x7fff ∷ []) 10 17
@@ -118,7 +109,7 @@ abbrev timeOfFlight : List Vector
 timeOfFlight =
     no (1 ∷ 0x5802 ∷ []) 5 14
     ∷ ok (2 ∷ 0x5802 ∷ []) (row 1 0x5802 0 0 ∷ [])
-    ∷ ok (10 ∷ 0x5802 ∷ (rising 0x4064 0x1001 4 ++ rising 0xc068 0x1001 4)) (row 1 0x5802 0 0 ∷ (risingRows 5 4 100 4 ++ risingRows 5 12 104 4))
+    ∷ ok (10 ∷ 0x5802 ∷ (rising 0x4064 0x1001 4 ++ rising 0xc068 0x1001 4)) (row 1 0x5802 0 0 ∷ (risingRows 5 0 4 100 4 ++ risingRows 5 0 12 104 4))
     ∷ no (11 ∷ 0x5802 ∷ rising 0x4064 0x1001 9) 7 14
     ∷ no (3 ∷ 0x5802 ∷ 0x3fff ∷ []) 10 16
     ∷ ok (3 ∷ 0x5802 ∷ 0x4000 ∷ []) (row 1 0x5802 0 0 ∷ row 5 0 4 0 ∷ [])
@@ -150,7 +141,7 @@ abbrev ionChamber : List Vector
 ionChamber =
     no (2 ∷ 0x5820 ∷ []) 7 14 ∷ no (3 ∷ 0x5820 ∷ 1 ∷ []) 7 14
     ∷ ok (4 ∷ 0x5820 ∷ 2 ∷ 0x5821 ∷ []) (row 1 0x5820 0 0 ∷ [])
-    ∷ ok (20 ∷ 0x5820 ∷ 18 ∷ 0x5821 ∷ rising 0x0064 0x1001 16) (row 1 0x5820 0 0 ∷ risingRows 6 0 100 16)
+    ∷ ok (20 ∷ 0x5820 ∷ 18 ∷ 0x5821 ∷ rising 0x0064 0x1001 16) (row 1 0x5820 0 0 ∷ risingRows 6 0 0 100 16)
     ∷ no (21 ∷ 0x5820 ∷ 19 ∷ 0x5821 ∷ replicate 17 0x0064) 7 14
     ∷ no (5 ∷ 0x5820 ∷ 2 ∷ 0x5821 ∷ 0x0064 ∷ []) 9 16
     ∷ no (5 ∷ 0x5820 ∷ 4 ∷ 0x5821 ∷ 0x0064 ∷ 2 ∷ 0x5802 ∷ []) 9 16
@@ -204,8 +195,8 @@ abbrev hodoscope : List Vector
 hodoscope =
     no (2 ∷ 0x58b0 ∷ []) 7 14
     ∷ ok (3 ∷ 0x58b0 ∷ 0 ∷ []) (row 1 0x58b0 0 0 ∷ [])
-    ∷ ok (19 ∷ 0x58b0 ∷ 0 ∷ rising 0x0064 0x1001 16) (row 1 0x58b0 0 0 ∷ risingRows 6 0 100 16)
-    ∷ ok (19 ∷ 0x58b0 ∷ 1 ∷ rising 0x0064 0x1001 16) (row 1 0x58b0 1 0 ∷ risingRows 6 16 100 16)
+    ∷ ok (19 ∷ 0x58b0 ∷ 0 ∷ rising 0x0064 0x1001 16) (row 1 0x58b0 0 0 ∷ risingRows 6 0 0 100 16)
+    ∷ ok (19 ∷ 0x58b0 ∷ 1 ∷ rising 0x0064 0x1001 16) (row 1 0x58b0 1 0 ∷ risingRows 6 0 16 100 16)
     ∷ no (20 ∷ 0x58b0 ∷ 0 ∷ replicate 17 0x0064) 7 14 ∷ no (20 ∷ 0x58b0 ∷ 3 ∷ replicate 17 0x0064) 7 14
     ∷ no (3 ∷ 0x58b0 ∷ 2 ∷ []) 7 14
     ∷ no (5 ∷ 0x58b0 ∷ 2 ∷ 0x0064 ∷ 0x1064 ∷ 2 ∷ 0x5802 ∷ []) 7 14
@@ -224,8 +215,8 @@ others =
     ∷ no (4 ∷ 0x58a0 ∷ 0x0064 ∷ 0x1064 ∷ []) 7 14
     ∷ no (2 ∷ 0x58c0 ∷ []) 7 14
     ∷ ok (3 ∷ 0x58c0 ∷ 0 ∷ []) (row 1 0x58c0 0 0 ∷ [])
-    ∷ ok (11 ∷ 0x58c0 ∷ 0 ∷ rising 0x0064 0x2001 8) (row 1 0x58c0 0 0 ∷ risingRows 6 0 100 8)
-    ∷ ok (11 ∷ 0x58c0 ∷ 3 ∷ rising 0x0064 0x2001 8) (row 1 0x58c0 3 0 ∷ risingRows 6 24 100 8)
+    ∷ ok (11 ∷ 0x58c0 ∷ 0 ∷ rising 0x0064 0x2001 8) (row 1 0x58c0 0 0 ∷ risingRows 6 0 0 100 8)
+    ∷ ok (11 ∷ 0x58c0 ∷ 3 ∷ rising 0x0064 0x2001 8) (row 1 0x58c0 3 0 ∷ risingRows 6 0 24 100 8)
     ∷ no (12 ∷ 0x58c0 ∷ 0 ∷ replicate 9 0x0064) 7 14
     ∷ ok (4 ∷ 0x58c0 ∷ 2 ∷ 0xe000 ∷ []) (row 1 0x58c0 2 0 ∷ row 6 0 23 0 ∷ [])
     ∷ no (3 ∷ 0x58c0 ∷ 4 ∷ []) 8 16 ∷ no (4 ∷ 0x58c0 ∷ 0x0100 ∷ 0x0064 ∷ []) 8 16

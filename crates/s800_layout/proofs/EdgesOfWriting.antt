@@ -1,6 +1,6 @@
 -- Writings of dialect S at the edges of its tables, computed. The expected outcomes are document 01's.
 -- Assumes nothing.
-use Prim.Native.Nat.{ℕ, zero, suc, _+_}
+use Prim.Native.Nat.{ℕ, _+_}
 use mathlib.Core.Bool.{cond}
 use mathlib.Core.Path.{_≡_, refl}
 use mathlib.Core.List.{List, [], _∷_, _++_, map}
@@ -11,6 +11,7 @@ use Rattle.event.specs.declared.StampOrder.the-variants.{Crossed, Rising}
 use Rattle.event.specs.Outcome.{Outcome, done, refused}
 use Rattle.event.specs.Parser.{each, member}
 use Rattle.event.specs.Rows.{row, flat}
+use Rattle.event.proofs.Vectors.{rising, risingRows}
 use Rattle.s800_layout.specs.Writing.{writing}
 
 pub record Vector : Type 0 where
@@ -56,16 +57,6 @@ only allowed before = map (λ k. no (before ++ (row k 0x5802 0 0 ∷ [])) 21 (4 
 -- the same where the packet may not end: 21 also at the row count, where the rows end
 abbrev onlyInside : (allowed : List ℕ) → List Row → List Vector
 onlyInside allowed before = no before 21 (4 + length before) ∷ only allowed before
-
--- n words from w on, each larger by d than the one before
-abbrev rising : (w d n : ℕ) → List ℕ
-rising w d zero = []
-rising w d (suc n) = w ∷ rising (w + d) d n
-
--- n rows from channel c and datum x on, each larger by 1 in both than the one before
-abbrev risingRows : (kind c x n : ℕ) → List Row
-risingRows k c x zero = []
-risingRows k c x (suc n) = row k 0 c x ∷ risingRows k (suc c) (suc x) n
 
 -- 20, before all else. Rows that end too early: 21 at the row count. 23, after all rows: more than 4,096 words, place the words needed.
 abbrev sizes : List Vector
@@ -125,7 +116,7 @@ trigger =
     ++ map (bad (triggerRow ∷ row 4 0 0 1 ∷ [])) (row 5 1 8 100 ∷ row 5 0 7 100 ∷ row 5 0 12 100 ∷ row 5 0 24 100 ∷ row 5 0 8 4096 ∷ row 5 0 0xffffffff 100 ∷ row 5 0 8 0xffffffff ∷ [])
     ++ map (bad (triggerRow ∷ row 4 0 0 1 ∷ row 5 0 9 100 ∷ row 5 0 8 100 ∷ [])) (row 5 0 8 100 ∷ row 5 0 9 101 ∷ row 5 0 12 100 ∷ [])
     ++ (ok (triggerRow ∷ row 4 0 0 31 ∷ []) (3 ∷ 0x5801 ∷ 0x001f ∷ [])
-    ∷ ok (triggerRow ∷ row 4 0 0 0 ∷ risingRows 5 8 100 4) (7 ∷ 0x5801 ∷ 0 ∷ rising 0x8064 0x1001 4)
+    ∷ ok (triggerRow ∷ row 4 0 0 0 ∷ risingRows 5 0 8 100 4) (7 ∷ 0x5801 ∷ 0 ∷ rising 0x8064 0x1001 4)
     ∷ ok (triggerRow ∷ row 4 0 0 1 ∷ row 5 0 11 4095 ∷ row 5 0 8 0 ∷ []) (5 ∷ 0x5801 ∷ 1 ∷ 0xbfff ∷ 0x8000 ∷ []) ∷ [])
 
 -- 0x5802: times, channel 4 to 7 or 12 to 15, none twice
@@ -135,7 +126,7 @@ timeOfFlight =
     ++ map (bad (row 1 0x5802 0 0 ∷ [])) (row 5 1 4 100 ∷ row 5 0 3 100 ∷ row 5 0 8 100 ∷ row 5 0 11 100 ∷ row 5 0 16 100 ∷ row 5 0 4 4096 ∷ [])
     ++ map (bad (row 1 0x5802 0 0 ∷ row 5 0 15 100 ∷ row 5 0 4 100 ∷ [])) (row 5 0 15 101 ∷ row 5 0 4 100 ∷ row 5 0 8 100 ∷ [])
     ++ (ok (row 1 0x5802 0 0 ∷ []) (2 ∷ 0x5802 ∷ [])
-    ∷ ok (row 1 0x5802 0 0 ∷ (risingRows 5 4 100 4 ++ risingRows 5 12 104 4)) (10 ∷ 0x5802 ∷ (rising 0x4064 0x1001 4 ++ rising 0xc068 0x1001 4))
+    ∷ ok (row 1 0x5802 0 0 ∷ (risingRows 5 0 4 100 4 ++ risingRows 5 0 12 104 4)) (10 ∷ 0x5802 ∷ (rising 0x4064 0x1001 4 ++ rising 0xc068 0x1001 4))
     ∷ ok (row 1 0x5802 0 0 ∷ row 5 0 15 4095 ∷ row 5 0 4 0 ∷ row 5 0 12 0 ∷ row 5 0 7 4095 ∷ []) (6 ∷ 0x5802 ∷ 0xffff ∷ 0x4000 ∷ 0xc000 ∷ 0x7fff ∷ []) ∷ [])
 
 -- 0x5810: an energy, then a time, channel 0 to 5, the same in both, none twice
@@ -160,7 +151,7 @@ ionChamber =
     ++ map (bad (row 1 0x5820 0 0 ∷ row 6 0 15 100 ∷ row 6 0 0 100 ∷ [])) (row 6 0 15 101 ∷ row 6 0 0 100 ∷ row 6 0 16 100 ∷ [])
     ++ (ok (row 1 0x5820 0 0 ∷ []) (4 ∷ 0x5820 ∷ 2 ∷ 0x5821 ∷ [])
     ∷ ok (row 1 0x5820 0 0 ∷ row 6 0 15 4095 ∷ row 6 0 0 0 ∷ []) (6 ∷ 0x5820 ∷ 4 ∷ 0x5821 ∷ 0xffff ∷ 0x0000 ∷ [])
-    ∷ ok (row 1 0x5820 0 0 ∷ risingRows 6 0 100 16) (20 ∷ 0x5820 ∷ 18 ∷ 0x5821 ∷ rising 0x0064 0x1001 16) ∷ [])
+    ∷ ok (row 1 0x5820 0 0 ∷ risingRows 6 0 0 100 16) (20 ∷ 0x5820 ∷ 18 ∷ 0x5821 ∷ rising 0x0064 0x1001 16) ∷ [])
 
 -- 0x5840: a threshold of 16 bits, samples (9 bits, pad below 256, energy of 10 bits; a pad may come twice), an anode of 16 and 16 bits
 abbrev crdc : List Vector
@@ -185,8 +176,8 @@ hodoscope =
     ++ map (bad (row 1 0x58b0 1 0 ∷ row 6 0 31 100 ∷ row 6 0 16 100 ∷ [])) (row 6 0 31 101 ∷ row 6 0 16 100 ∷ row 6 0 15 100 ∷ [])
     ++ map (bad (row 1 0x58b0 2 0 ∷ [])) (row 10 0x00010000 2 3 ∷ row 10 1 0x00010000 3 ∷ row 10 1 2 0x00010000 ∷ [])
     ++ (ok (row 1 0x58b0 0 0 ∷ []) (3 ∷ 0x58b0 ∷ 0 ∷ []) ∷ ok (row 1 0x58b0 1 0 ∷ []) (3 ∷ 0x58b0 ∷ 1 ∷ [])
-    ∷ ok (row 1 0x58b0 0 0 ∷ risingRows 6 0 100 16) (19 ∷ 0x58b0 ∷ 0 ∷ rising 0x0064 0x1001 16)
-    ∷ ok (row 1 0x58b0 1 0 ∷ risingRows 6 16 100 16) (19 ∷ 0x58b0 ∷ 1 ∷ rising 0x0064 0x1001 16)
+    ∷ ok (row 1 0x58b0 0 0 ∷ risingRows 6 0 0 100 16) (19 ∷ 0x58b0 ∷ 0 ∷ rising 0x0064 0x1001 16)
+    ∷ ok (row 1 0x58b0 1 0 ∷ risingRows 6 0 16 100 16) (19 ∷ 0x58b0 ∷ 1 ∷ rising 0x0064 0x1001 16)
     ∷ ok (row 1 0x58b0 2 0 ∷ row 10 0xffff 0xfffe 0xfffd ∷ []) (6 ∷ 0x58b0 ∷ 2 ∷ 0xffff ∷ 0xfffe ∷ 0xfffd ∷ [])
     ∷ ok (row 1 0x58b0 1 0 ∷ row 6 0 31 4095 ∷ row 6 0 16 0 ∷ row 1 0x58b0 0 0 ∷ row 6 0 15 4095 ∷ row 6 0 0 0 ∷ []) (5 ∷ 0x58b0 ∷ 1 ∷ 0xffff ∷ 0x0000 ∷ 5 ∷ 0x58b0 ∷ 0 ∷ 0xffff ∷ 0x0000 ∷ []) ∷ [])
 
@@ -202,7 +193,7 @@ others =
     ++ map (bad (row 1 0x58c0 2 0 ∷ [])) (row 6 1 20 100 ∷ row 6 0 15 100 ∷ row 6 0 24 100 ∷ row 6 0 4 100 ∷ row 6 0 20 8192 ∷ [])
     ++ map (bad (row 1 0x58c0 3 0 ∷ row 6 0 31 100 ∷ row 6 0 24 100 ∷ [])) (row 6 0 31 101 ∷ row 6 0 24 100 ∷ row 6 0 23 100 ∷ row 6 0 32 100 ∷ [])
     ++ (ok (row 1 0x58c0 0 0 ∷ []) (3 ∷ 0x58c0 ∷ 0 ∷ [])
-    ∷ ok (row 1 0x58c0 0 0 ∷ risingRows 6 0 100 8) (11 ∷ 0x58c0 ∷ 0 ∷ rising 0x0064 0x2001 8) ∷ ok (row 1 0x58c0 3 0 ∷ risingRows 6 24 100 8) (11 ∷ 0x58c0 ∷ 3 ∷ rising 0x0064 0x2001 8)
+    ∷ ok (row 1 0x58c0 0 0 ∷ risingRows 6 0 0 100 8) (11 ∷ 0x58c0 ∷ 0 ∷ rising 0x0064 0x2001 8) ∷ ok (row 1 0x58c0 3 0 ∷ risingRows 6 0 24 100 8) (11 ∷ 0x58c0 ∷ 3 ∷ rising 0x0064 0x2001 8)
     ∷ ok (row 1 0x58c0 1 0 ∷ row 6 0 15 8191 ∷ row 6 0 8 0 ∷ []) (5 ∷ 0x58c0 ∷ 1 ∷ 0xffff ∷ 0x0000 ∷ []) ∷ [])
     ++ each (λ t. only (1 ∷ 11 ∷ []) (row 1 t 0 0 ∷ [])
     ++ map (bad (row 1 t 0 0 ∷ row 11 0 0 1 ∷ [])) (row 11 1 0 1 ∷ row 11 0 1 1 ∷ row 11 0 0 0x00010000 ∷ row 11 0 0 0xffffffff ∷ [])
@@ -212,10 +203,10 @@ others =
 -- All channels of a packet taken: a further row of their kind repeats one or is out of its range, 22 (0x58A0 takes one energy of any channel, so there a second is 21, above)
 abbrev taken : List Vector
 taken =
-    each (λ c. bad (triggerRow ∷ row 4 0 0 0 ∷ risingRows 5 8 100 4) (row 5 0 c 0) ∷ bad (row 1 0x5802 0 0 ∷ (risingRows 5 4 100 4 ++ risingRows 5 12 104 4)) (row 5 0 c 0)
-    ∷ bad (row 1 0x5810 0 0 ∷ each (λ e. row 6 0 e 0 ∷ row 5 0 e 0 ∷ []) (0 ∷ 1 ∷ 2 ∷ 3 ∷ 4 ∷ 5 ∷ [])) (row 6 0 c 0) ∷ bad (row 1 0x5820 0 0 ∷ risingRows 6 0 100 16) (row 6 0 c 0)
-    ∷ bad (row 1 0x58b0 0 0 ∷ risingRows 6 0 100 16) (row 6 0 c 0) ∷ bad (row 1 0x58b0 1 0 ∷ risingRows 6 16 100 16) (row 6 0 c 0)
-    ∷ bad (row 1 0x58c0 0 0 ∷ risingRows 6 0 100 8) (row 6 0 c 0) ∷ bad (row 1 0x58c0 3 0 ∷ risingRows 6 24 100 8) (row 6 0 c 0) ∷ []) (0 ∷ 5 ∷ 8 ∷ 15 ∷ 16 ∷ 31 ∷ 32 ∷ [])
+    each (λ c. bad (triggerRow ∷ row 4 0 0 0 ∷ risingRows 5 0 8 100 4) (row 5 0 c 0) ∷ bad (row 1 0x5802 0 0 ∷ (risingRows 5 0 4 100 4 ++ risingRows 5 0 12 104 4)) (row 5 0 c 0)
+    ∷ bad (row 1 0x5810 0 0 ∷ each (λ e. row 6 0 e 0 ∷ row 5 0 e 0 ∷ []) (0 ∷ 1 ∷ 2 ∷ 3 ∷ 4 ∷ 5 ∷ [])) (row 6 0 c 0) ∷ bad (row 1 0x5820 0 0 ∷ risingRows 6 0 0 100 16) (row 6 0 c 0)
+    ∷ bad (row 1 0x58b0 0 0 ∷ risingRows 6 0 0 100 16) (row 6 0 c 0) ∷ bad (row 1 0x58b0 1 0 ∷ risingRows 6 0 16 100 16) (row 6 0 c 0)
+    ∷ bad (row 1 0x58c0 0 0 ∷ risingRows 6 0 0 100 8) (row 6 0 c 0) ∷ bad (row 1 0x58c0 3 0 ∷ risingRows 6 0 24 100 8) (row 6 0 c 0) ∷ []) (0 ∷ 5 ∷ 8 ∷ 15 ∷ 16 ∷ 31 ∷ 32 ∷ [])
 
 abbrev pub vectors : List Vector
 vectors = sizes ++ firstRows ++ runs ++ trigger ++ timeOfFlight ++ scintillator ++ ionChamber ++ crdc ++ hodoscope ++ others ++ taken

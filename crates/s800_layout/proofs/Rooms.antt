@@ -3,28 +3,10 @@
 use Prim.Native.Nat.{ℕ}
 use mathlib.Core.Path.{_≡_, refl}
 use mathlib.Core.List.{List, [], _∷_, _++_, map}
-use lib.ListN.{length, replicate}
-use Rattle.event.specs.declared.Answer.{Answer}
 use Rattle.event.specs.declared.Answer.the-variants.{Accepted, Refused}
 use Rattle.event.specs.declared.StampOrder.the-variants.{Crossed}
-use Rattle.event.specs.Outcome.{answerOf, given, overlaid}
-use Rattle.event.specs.Rows.{flat, room}
+use Rattle.event.proofs.Vectors.{readInto, nines, RoomCase, case}
 use Rattle.s800_layout.specs.Reading.{readingInto}
-
--- what comes in, and what stands afterwards
-pub record Lent : Type 0 where
-  pub words : List ℕ
-  pub buffer : List ℕ
-
-pub record Left : Type 0 where
-  pub answer : Answer
-  pub buffer : List ℕ
-
-abbrev read : Lent → Left
-read l = record {
-  answer = answerOf (readingInto (room (length (l .buffer))) Crossed (l .words));
-  buffer = overlaid (flat (given (readingInto (room (length (l .buffer))) Crossed (l .words)))) (l .buffer);
-}
 
 -- document 01's M, and M with a trigger packet whose time has channel 7, which is refused at 17
 abbrev m : List ℕ
@@ -37,18 +19,7 @@ bad = 0x0012 ∷ 0x5800 ∷ 0x0005 ∷ 0x0006 ∷ 0x5803 ∷ 0x1234 ∷ 0x0000 �
 abbrev elements : List ℕ
 elements = 1 ∷ 0x5803 ∷ 0 ∷ 0 ∷ 2 ∷ 0 ∷ 0 ∷ 0x00011234 ∷ 1 ∷ 0x5804 ∷ 0 ∷ 0 ∷ 3 ∷ 0 ∷ 0 ∷ 7 ∷ []
 
--- a buffer of n elements
-abbrev nines : ℕ → List ℕ
-nines n = replicate n 9
-
-pub record Case : Type 0 where
-  pub lent : Lent
-  pub left : Left
-
-abbrev case : List ℕ → List ℕ → Answer → List ℕ → Case
-case ws b a after = record { lent = record { words = ws; buffer = b }; left = record { answer = a; buffer = after } }
-
-abbrev cases : List Case
+abbrev cases : List RoomCase
 cases =
     -- 12, place the rows needed, the buffer as it was
     case m [] (Refused 12 4) []
@@ -66,5 +37,5 @@ cases =
     ∷ case bad (nines 40) (Refused 10 17) (nines 40)
     ∷ []
 
-pub rooms : map (λ (c : Case). read (c .lent)) cases ≡ map (λ (c : Case). c .left) cases
+pub rooms : map (λ (c : RoomCase). readInto (λ r. readingInto r Crossed) (c .lent)) cases ≡ map (λ (c : RoomCase). c .left) cases
 rooms = refl

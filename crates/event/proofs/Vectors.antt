@@ -1,0 +1,45 @@
+-- What the tables of computed vectors share: runs of words and of rows, and readings into lent buffers. (No law: nothing here is proved.)
+-- Assumes nothing.
+use Prim.Native.Nat.{ℕ, zero, suc, _+_}
+use mathlib.Core.List.{List, [], _∷_}
+use lib.ListN.{length, replicate}
+use Rattle.event.specs.declared.Answer.{Answer}
+use Rattle.event.specs.declared.Row.{Row}
+use Rattle.event.specs.Outcome.{Outcome, answerOf, given, overlaid}
+use Rattle.event.specs.Rows.{row, flat, room}
+
+-- n words from w on, each larger by d than the one before
+abbrev pub rising : (w d n : ℕ) → List ℕ
+rising w d zero = []
+rising w d (suc n) = w ∷ rising (w + d) d n
+
+-- n rows of a unit from channel c and datum x on, each larger by 1 in both than the one before
+abbrev pub risingRows : (kind unit c x n : ℕ) → List Row
+risingRows k u c x zero = []
+risingRows k u c x (suc n) = row k u c x ∷ risingRows k u (suc c) (suc x) n
+
+-- words and a buffer that come in, and what stands afterwards
+pub record Lent : Type 0 where
+  pub words : List ℕ
+  pub buffer : List ℕ
+
+pub record Left : Type 0 where
+  pub answer : Answer
+  pub buffer : List ℕ
+
+-- a reading into room for so many rows
+abbrev pub readInto : (ℕ → List ℕ → Outcome Row) → Lent → Left
+readInto into l =
+    let x = into (room (length (l .buffer))) (l .words) in
+    record { answer = answerOf x; buffer = overlaid (flat (given x)) (l .buffer) }
+
+-- a buffer of n elements
+abbrev pub nines : ℕ → List ℕ
+nines n = replicate n 9
+
+pub record RoomCase : Type 0 where
+  pub lent : Lent
+  pub left : Left
+
+abbrev pub case : List ℕ → List ℕ → Answer → List ℕ → RoomCase
+case ws b a after = record { lent = record { words = ws; buffer = b }; left = record { answer = a; buffer = after } }
