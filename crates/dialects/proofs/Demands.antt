@@ -1,18 +1,17 @@
 -- Demands 2 and 3, over every dialect and both stamp orders.
 -- Assumes nothing.
-use Prim.Native.Nat.{ℕ, suc, _+_, _^_, _≤_}
+use Prim.Native.Nat.{ℕ, suc, _+_, _≤_}
 use native.Mathlib.Omega.{arith}
 use mathlib.Core.Path.{_≡_, refl, ap, sym, subst}
 use mathlib.Core.Logic.{_↔_}
 use mathlib.Core.List.{List, _∷_}
-use lib.Dec.{T, ltb}
 use lib.ListN.{length}
 use Rattle.event.specs.declared.Row.{Row}
 use Rattle.event.specs.declared.StampOrder.{StampOrder}
 use Rattle.event.specs.Parser.{All}
 use Rattle.event.specs.Outcome.{done, given}
 use Rattle.event.specs.Rows.{flat}
-use Rattle.event.specs.Demands.{join}
+use Rattle.event.specs.Demands.{InWidth, join}
 use Rattle.event.proofs.Join.{Separate, join-iff, by-length, by-parser}
 use Rattle.s800_layout.specs.Event.{eventTag}
 use Rattle.s800_layout.specs.Layout.{version, packetsWords}
@@ -55,7 +54,7 @@ read-back d o xs ws e = let h = writing-iff d o xs ws .0 e in (h .0, h .1, readi
 
 -- Demand 3.
 
-words-fit : (d : Dialect) (e : Event d) → Valid d e → All (λ w. T (ltb w (2 ^ width d))) (words d e)
+words-fit : (d : Dialect) (e : Event d) → Valid d e → InWidth (width d) (words d e)
 words-fit S = WidthS.words-fit
 words-fit F = WidthF.words-fit
 
@@ -69,7 +68,7 @@ acceptable-iff d o ws = (λ a. (rows d o (a .event), accepted d o ws a), from)
     from : (rs : List Row) × (reading d o ws ≡ done rs) → AcceptableIn d ws
     from h =
         let v = reading-iff d o ws (h .0) .0 (h .1) in
-        record { inWidth = subst (All (λ w. T (ltb w (2 ^ width d)))) (v .itsWords) (words-fit d (v .event) (v .valid)); event = v .event; valid = v .valid; itsWords = v .itsWords }
+        record { inWidth = subst (InWidth (width d)) (v .itsWords) (words-fit d (v .event) (v .valid)); event = v .event; valid = v .valid; itsWords = v .itsWords }
 
 -- Its rows are the layout's, as a reading with room enough writes them.
 pub rows-of : (d : Dialect) (o : StampOrder) (ws : List ℕ) (a : AcceptableIn d ws)

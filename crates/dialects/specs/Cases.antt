@@ -10,18 +10,18 @@ use Rattle.event.specs.Rows.{row}
 use Rattle.dialects.specs.Dialects.{Dialect, S, F}
 
 -- document 01 calls its first line M: here with its word 0, its word 3, and words added
-abbrev pub m : (word0 word3 : ℕ) → List ℕ → List ℕ
+abbrev m : (word0 word3 : ℕ) → List ℕ → List ℕ
 m word0 word3 more = word0 ∷ 0x5800 ∷ 0x0005 ∷ word3 ∷ 0x5803 ∷ 0x1234 ∷ 0x0000 ∷ 0x0001 ∷ 0x0000 ∷ 0x0005 ∷ 0x5804 ∷ 0x0007 ∷ 0x0000 ∷ 0x0000 ∷ more
 
 -- M's rows with its stamp (bits 63-32, bits 31-0) and rows added
-abbrev pub mRows : (high low : ℕ) → List Row → List Row
+abbrev mRows : (high low : ℕ) → List Row → List Row
 mRows high low more = row 1 0x5803 0 0 ∷ row 2 0 high low ∷ row 1 0x5804 0 0 ∷ row 3 0 0 7 ∷ more
 
 -- the line of case 10, with longwords added; its rows, with rows added
-abbrev pub f : List ℕ → List ℕ
+abbrev f : List ℕ → List ℕ
 f more = 0x00000200 ∷ 0x00f717ff ∷ 0x01f738e1 ∷ 0x02f70563 ∷ 0x32000001 ∷ 0x0000002a ∷ 0x34000000 ∷ more
 
-abbrev pub fRows : List Row → List Row
+abbrev fRows : List Row → List Row
 fRows more = row 16 0x17ff 0x38e1 0x0563 ∷ row 17 6 1 0 ∷ row 18 6 0 42 ∷ more
 
 pub record Case : Type 0 where
@@ -30,7 +30,7 @@ pub record Case : Type 0 where
   pub words : List ℕ
   pub outcome : Outcome Row
 
-abbrev pub case : Dialect → StampOrder → List ℕ → Outcome Row → Case
+abbrev case : Dialect → StampOrder → List ℕ → Outcome Row → Case
 case d o ws x = record { dialect = d; order = o; words = ws; outcome = x }
 
 abbrev pub cases : List Case

@@ -13,7 +13,7 @@ use Rattle.event.specs.declared.Answer.the-variants.{Accepted, Refused}
 use Rattle.event.specs.declared.Row.{Row}
 use Rattle.event.specs.Parser.{Result, ok, refuse}
 use Rattle.event.specs.Rows.{flatRow, flat, room, storeRow}
-use Rattle.event.specs.Outcome.{Outcome, done, outcome, limited, given, answerOf, overlaid}
+use Rattle.event.specs.Outcome.{Outcome, done, outcome, inRoom, given, answerOf, overlaid}
 use Rattle.event.specs.Scanning.{storeRows, Scanned}
 use Rattle.event.proofs.Impossible.{impossible}
 
@@ -37,13 +37,13 @@ overlay buffer rs h =
     stores buffer 0 rs (omega arith) ∙ sets-eq (flat rs) buffer 0 (omega arith) ∙ rw zero-add
 
 module _ {E A : Type 0} (rowsOf : A → List Row) (x : Result E A) (buffer : List ℕ) where
-  -- the outcome in the room of the buffer, with refusal 12
-  abbrev pub inRoom : Outcome Row
-  inRoom = limited 12 (room (length buffer)) (outcome (λ a. done (rowsOf a)) x)
+  -- the outcome in the room of the buffer
+  abbrev pub gave : Outcome Row
+  gave = inRoom (room (length buffer)) (outcome (λ a. done (rowsOf a)) x)
 
   pub record Read (result : Answer) (after : List ℕ) : Type 0 where
-    pub answered : result ≡ answerOf inRoom
-    pub written : after ≡ overlaid (flat (given inRoom)) buffer
+    pub answered : result ≡ answerOf gave
+    pub written : after ≡ overlaid (flat (given gave)) buffer
 
 module _ {E A : Type 0} (rowsOf : A → List Row) (buffer : List ℕ) where
   pub read-refused : (x : Result E A) {n p : ℕ} {b after : List ℕ} → Scanned rowsOf x 0 b (Refused n p) after → Read rowsOf x buffer (Refused n p) buffer

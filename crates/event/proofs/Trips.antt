@@ -11,7 +11,7 @@ use Rattle.event.specs.Parser.{Parser, ended}
 use Rattle.event.specs.Words.{between}
 use Rattle.event.specs.Rows.{flat}
 use Rattle.event.specs.Outcome.{Outcome, done, outcome, limited}
-use Rattle.event.specs.Writing.{fromElements}
+use Rattle.event.specs.Writing.{writingBy}
 use Rattle.event.specs.Demands.{Sized, SomeEvent}
 use Rattle.event.proofs.Codes.{Codes, At}
 use Rattle.event.proofs.Ends.{Ends}
@@ -78,7 +78,7 @@ module _ {Event : Type 0} (Formed : Event → Type 0) (words : Event → List �
             let p : outcome (λ x. done (words x)) (parser 0 rs) ≡ done ws = rw (← v .itsRows, ← v .itsWords) (printed c (λ x. done (words x)) e (v .valid .formed)) in
             fits .1 (p, subst (λ (l : List ℕ). length l ≤ largest) (v .itsWords) (v .valid .size))
 
-    pub writes : (xs ws : List ℕ) → (fromElements writingRows xs ≡ done ws) ↔ ((rs : List Row) × (flat rs ≡ xs) × Has ws rs)
+    pub writes : (xs ws : List ℕ) → (writingBy words largest parser xs ≡ done ws) ↔ ((rs : List Row) × (flat rs ≡ xs) × Has ws rs)
     writes xs ws =
         let h = elements-iff writingRows xs ws in
         (λ e. let k = h .0 e in (k .0, k .1, writes-rows ws (k .0) .0 (k .2)), λ v. h .1 (v .0, v .1, writes-rows ws (v .0) .1 (v .2)))

@@ -7,6 +7,7 @@ use lib.Dec.{leb}
 use lib.ListN.{length, drop}
 use Rattle.event.specs.declared.Answer.{Answer}
 use Rattle.event.specs.declared.Answer.the-variants as answer
+use Rattle.event.specs.declared.Row.{Row}
 use Rattle.event.specs.declared.StampOrder.{StampOrder}
 use Rattle.event.specs.declared.StampOrder.the-variants as stamp
 use Rattle.event.specs.Parser.{Result, ok, refuse}
@@ -28,6 +29,10 @@ outcome f (refuse n k) = refused n k
 abbrev pub limited : {A : Type 0} → ℕ → ℕ → Outcome A → Outcome A
 limited n most (done xs) = cond (leb (length xs) most) (done xs) (refused n (length xs))
 limited n most (refused m k) = refused m k
+
+-- a reading into room for so many rows: 12 last
+abbrev pub inRoom : ℕ → Outcome Row → Outcome Row
+inRoom room = limited 12 room
 
 -- the items of an outcome; none on refusal
 abbrev pub given : {A : Type 0} → Outcome A → List A

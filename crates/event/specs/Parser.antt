@@ -68,7 +68,7 @@ module _ {E : Type 0} where
   element n fields tests i [] = refuse n i
   element n fields tests i (x ∷ r) = judge (tests x) (fields x) i r
 
-  -- the elements after those that were to be filled; what is left of these is refused, by 0 (each dialect shows that it never is: proofs/Refusals)
+  -- the elements after those of `p`'s part; where `p` left some of its part, the refusal is 0, which never shows (each dialect's proofs/Refusals and WritingRefusals)
   abbrev pub filled : {A : Type 0} → List E → Result E A → Result E A
   filled rest (ok a j []) = ok a j rest
   filled rest (ok a j (x ∷ r)) = refuse 0 j
@@ -89,7 +89,7 @@ module _ {E St A : Type 0} (item : St → Parser E A) (next : St → A → St) w
   times zero st = give []
   times (suc n) st = item st >>= λ a. times n (next st a) >>= λ xs. give (a ∷ xs)
 
-  -- items up to a stop; the fuel bounds their number, and lasts (by 0: each dialect shows that it does)
+  -- items up to a stop; the fuel bounds their number and never runs out (the refusal 0 never shows)
   abbrev pub upTo : (List E → Bool) → ℕ → St → Parser E (List A)
   upTo stop zero st i s = cond (stop s) (ok [] i s) (refuse 0 i)
   upTo stop (suc f) st i s = cond (stop s) (ok [] i s) ((item st >>= λ a. upTo stop f (next st a) >>= λ xs. give (a ∷ xs)) i s)

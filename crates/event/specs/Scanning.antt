@@ -18,12 +18,12 @@ storeRows buffer k (r ∷ rs) = storeRows (storeRow buffer k r) (k + 1) rs
 
 module _ {E A : Type 0} (rowsOf : A → List Row) where
   -- the answer to what a parser gave, after k rows
-  abbrev pub answerAt : ℕ → Result E A → Answer
+  abbrev answerAt : ℕ → Result E A → Answer
   answerAt k (ok a j r) = answer.Accepted (k + length (rowsOf a))
   answerAt k (refuse n p) = answer.Refused n p
 
   -- the buffer after it; nothing is said of it on refusal
-  abbrev pub Stored : ℕ → List ℕ → List ℕ → Result E A → Type 0
+  abbrev Stored : ℕ → List ℕ → List ℕ → Result E A → Type 0
   Stored k before after (ok a j r) = after ≡ storeRows before k (rowsOf a)
   Stored k before after (refuse n p) = Unit {0}
 

@@ -10,7 +10,7 @@ use lib.ListN.{length}
 use Rattle.event.specs.declared.Row.{Row}
 use Rattle.event.specs.Parser.{Parser, Test, test, element}
 use Rattle.event.specs.Rows.{row}
-use Rattle.event.specs.Outcome.{Outcome, refused}
+use Rattle.event.specs.Outcome.{Outcome, done, refused, outcome, limited}
 
 abbrev pub sameRow : Row → Row → Bool
 sameRow r s = eqb (r .kind) (s .kind) && (eqb (r .unit) (s .unit) && (eqb (r .channel) (s .channel) && eqb (r .datum) (s .datum)))
@@ -35,9 +35,13 @@ rowsIn (k ∷ u ∷ []) = []
 rowsIn (k ∷ u ∷ c ∷ []) = []
 rowsIn (k ∷ u ∷ c ∷ d ∷ xs) = row k u c d ∷ rowsIn xs
 
--- 20: the elements are not a multiple of four
+-- 20: the number of elements is not a multiple of four
 abbrev pub fromElements : (List Row → Outcome ℕ) → List ℕ → Outcome ℕ
 fromElements writingRows xs = cond (eqb (length xs % 4) 0) (writingRows (rowsIn xs)) (refused 20 0)
+
+-- A writing: 20; then 21 and 22, row by row, by the parser of the rows; then 23, more words than the largest event.
+abbrev pub writingBy : {Event : Type 0} → (Event → List ℕ) → (largest : ℕ) → Parser Row Event → List ℕ → Outcome ℕ
+writingBy words largest parser = fromElements (λ rs. limited 23 largest (outcome (λ e. done (words e)) (parser 0 rs)))
 
 -- Refusal n at place k of a writing of `count` rows: 20 at 0; 21 or 22 at a row or where they end; 23 with more words than the largest event has.
 abbrev pub RefusedAt : (largest count n k : ℕ) → Type 0

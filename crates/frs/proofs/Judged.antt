@@ -11,13 +11,13 @@ use borrow.Author.Tests.{eq-eqb, ne-eqb, eqb-true, eqb-false, lt-ltb, leb-true}
 use Rattle.event.specs.Parser.{Result, ok, refuse, then, give, judge}
 use Rattle.event.specs.Channels.{present}
 use Rattle.event.proofs.ChannelLaws.{Blocked, seen-only}
-use Rattle.frs_layout.specs.Event.{Value, block}
+use Rattle.frs_layout.specs.Event.{Value, withData}
 use Rattle.frs_layout.specs.Layout.{longword, halves, datumBits, valueWord, geoChecks}
-use Rattle.frs_layout.specs.Reading.{under, Header, bare, full, headerOf, header, valueOf, value, footer}
+use Rattle.frs_layout.specs.Reading.{dataUnder, Header, emptyHeader, dataHeader, headerOf, header, valueOf, value, footer}
 use Rattle.frs.specs.Longword.{isHeader, headerFault, valueFault, footerFault}
 
 -- an upper half over 16 data bits
-pub under-judged : (upper i w : ℕ) (r : List ℕ) → under upper i (w ∷ r) ≡ cond (eqb w (halves upper (w % 2 ^ 16))) (ok (w % 2 ^ 16) (suc i) r) (refuse 10 i)
+pub under-judged : (upper i w : ℕ) (r : List ℕ) → dataUnder upper i (w ∷ r) ≡ cond (eqb w (halves upper (w % 2 ^ 16))) (ok (w % 2 ^ 16) (suc i) r) (refuse 10 i)
 under-judged upper i w r = rw (lt-ltb (w % 2 ^ 16) (2 ^ 16) (omega arith))
 
 low-six : (w : ℕ) → w % 2 ^ 6 ≡ w % 2 ^ 24 % 2 ^ 6
@@ -60,14 +60,14 @@ module _ {set : ℕ} {seen : List ℕ} (s : Blocked 0 set seen) (i : ℕ) (r : L
     Judged = header seen i (w ∷ r) ≡ onFault (headerFault set w) (headerOf w) i r
 
     -- flag 6: over 0
-    bare-judged : w / 2 ^ 24 % 2 ^ 3 ≡ 6 → Judged
+    emptyHeader-judged : w / 2 ^ 24 % 2 ^ 3 ≡ 6 → Judged
     unfolding headerFault isHeader
-    bare-judged f = go (eqb (w % 2 ^ 24) 0) refl
+    emptyHeader-judged f = go (eqb (w % 2 ^ 24) 0) refl
       where
         go : (b : Bool) → eqb (w % 2 ^ 24) 0 ≡ b → Judged
         go true z =
             let e : w ≡ longword (w / 2 ^ 27) 6 0 = omega (arith, eqb-true (w % 2 ^ 24) 0 z) in
-            rw (f, z, eq-eqb w (longword (w / 2 ^ 27) 6 0) e) (geo-judged (bare (w / 2 ^ 27)))
+            rw (f, z, eq-eqb w (longword (w / 2 ^ 27) 6 0) e) (geo-judged (emptyHeader (w / 2 ^ 27)))
         go false z =
             let n = eqb-false (w % 2 ^ 24) 0 z in
             rw (f, z, ne-eqb w (longword (w / 2 ^ 27) 6 0) (λ e. n (omega arith)))
@@ -99,12 +99,12 @@ module _ {set : ℕ} {seen : List ℕ} (s : Blocked 0 set seen) (i : ℕ) (r : L
           let d : w / 2 ^ 27 ≡ w / 2 ^ 24 / 2 ^ 3 = omega arith in
           let e : w ≡ longword (w / 2 ^ 24 / 2 ^ 3) 2 (w % 2 ^ 24) = omega arith in
           let e : w ≡ longword (w / 2 ^ 27) 2 (w % 2 ^ 6) = omega arith in
-          rw (f, p, q, eq-eqb w (longword (w / 2 ^ 27) 2 (w % 2 ^ 6)) e, n, p, q) (geo-judged (full (w / 2 ^ 27) (w % 2 ^ 24)))
+          rw (f, p, q, eq-eqb w (longword (w / 2 ^ 27) 2 (w % 2 ^ 6)) e, n, p, q) (geo-judged (dataHeader (w / 2 ^ 27) (w % 2 ^ 24)))
 
-      full-judged : (a b : Bool) → leb 1 (w % 2 ^ 24) ≡ a → leb (w % 2 ^ 24) 32 ≡ b → Judged
-      full-judged true true p q = some p q
-      full-judged true false p q = many inLayout refl p q
-      full-judged false b p q = none inLayout refl p
+      dataHeader-judged : (a b : Bool) → leb 1 (w % 2 ^ 24) ≡ a → leb (w % 2 ^ 24) 32 ≡ b → Judged
+      dataHeader-judged true true p q = some p q
+      dataHeader-judged true false p q = many inLayout refl p q
+      dataHeader-judged false b p q = none inLayout refl p
 
     -- another flag
     other-judged : (w / 2 ^ 24 % 2 ^ 3 ≡ 6 → ⊥) → (w / 2 ^ 24 % 2 ^ 3 ≡ 2 → ⊥) → Judged
@@ -115,15 +115,15 @@ module _ {set : ℕ} {seen : List ℕ} (s : Blocked 0 set seen) (i : ℕ) (r : L
     header-judged = go (eqb (w / 2 ^ 24 % 2 ^ 3) 6) refl (eqb (w / 2 ^ 24 % 2 ^ 3) 2) refl
       where
         go : (a : Bool) → eqb (w / 2 ^ 24 % 2 ^ 3) 6 ≡ a → (b : Bool) → eqb (w / 2 ^ 24 % 2 ^ 3) 2 ≡ b → Judged
-        go true p b q = bare-judged (eqb-true (w / 2 ^ 24 % 2 ^ 3) 6 p)
-        go false p true q = full-judged (eqb-true (w / 2 ^ 24 % 2 ^ 3) 2 q) (leb 1 (w % 2 ^ 24)) (leb (w % 2 ^ 24) 32) refl refl
+        go true p b q = emptyHeader-judged (eqb-true (w / 2 ^ 24 % 2 ^ 3) 6 p)
+        go false p true q = dataHeader-judged (eqb-true (w / 2 ^ 24 % 2 ^ 3) 2 q) (leb 1 (w % 2 ^ 24)) (leb (w % 2 ^ 24) 32) refl refl
         go false p false q = other-judged (eqb-false (w / 2 ^ 24 % 2 ^ 3) 6 p) (eqb-false (w / 2 ^ 24 % 2 ^ 3) 2 q)
 
 -- a block's footer
-pub footer-judged : (g : ℕ) (vs : List Value) (i w : ℕ) (r : List ℕ) → footer g vs i (w ∷ r) ≡ onFault (footerFault g w) (block g vs (w % 2 ^ 16)) i r
+pub footer-judged : (g : ℕ) (vs : List Value) (i w : ℕ) (r : List ℕ) → footer g vs i (w ∷ r) ≡ onFault (footerFault g w) (withData g vs (w % 2 ^ 16)) i r
 unfolding footerFault
 footer-judged g vs i w r = rw (lt-ltb (w % 2 ^ 16) (2 ^ 16) (omega arith)) (go (eqb w (longword g 4 (w % 2 ^ 16))))
   where
-    go : (b : Bool) → then (λ c. give (block g vs c)) (cond b (ok (w % 2 ^ 16) (suc i) r) (refuse 9 i)) ≡ onFault (cond b 0 9) (block g vs (w % 2 ^ 16)) i r
+    go : (b : Bool) → then (λ c. give (withData g vs c)) (cond b (ok (w % 2 ^ 16) (suc i) r) (refuse 9 i)) ≡ onFault (cond b 0 9) (withData g vs (w % 2 ^ 16)) i r
     go true = refl
     go false = refl

@@ -24,7 +24,7 @@ use Rattle.event.proofs.Impossible.{impossible}
 use Rattle.event.proofs.Leads.{refused-scan}
 use Rattle.event.proofs.Loops.{to-the-end, at-end}
 use Rattle.event.proofs.Turns.{Reached, stop, step, at-word}
-use Rattle.frs_layout.specs.Event.{Value, Module, empty, block}
+use Rattle.frs_layout.specs.Event.{Value, Module, empty, withData}
 use Rattle.frs_layout.specs.Layout.{valueWord, valueRow, moduleRows, channels, geos}
 use Rattle.frs_layout.specs.Reading.{valueOf, value, values, footer, oneModule}
 use Rattle.frs_layout.proofs.Words.{codes-value, codes-values, codes-module, not-ended}
@@ -135,7 +135,7 @@ module _ {set : ℕ} {ws : List ℕ} {i₀ k₀ i k : ℕ} {b₀ b : List ℕ} (
 
     module _ {k₁ k₂ : ℕ} {b₁ b₂ : List ℕ} (s : Scanned (each (valueRows g)) valuesThere k₁ b₁ (answer.Accepted k₂) b₂) {w : ℕ} (e : w ≡ getD ws end 0) where
       read : oneModule (h .state) i (slice i (length ws) ws)
-          ≡ filled (slice (end + 1) (length ws) ws) (cond (eqb (footerFault g w) 0) (ok (block g (good-values s .list) (w % 2 ^ 16)) (end + 1) []) (refuse (footerFault g w) end))
+          ≡ filled (slice (end + 1) (length ws) ws) (cond (eqb (footerFault g w) 0) (ok (withData g (good-values s .list) (w % 2 ^ 16)) (end + 1) []) (refuse (footerFault g w) end))
       read =
           let v = good-values s in
           let one : suc end ≡ end + 1 = omega arith in
@@ -152,7 +152,7 @@ module _ {set : ℕ} {ws : List ℕ} {i₀ k₀ i k : ℕ} {b₀ b : List ℕ} (
           let few = h .few in
           let rest = map (valueRow g) (v .list) in
           let own : storeRow b k (row 21 g n (getD ws end 0 % 2 ^ 16)) ≡ storeRow b k (row 21 g (length (v .list)) (w % 2 ^ 16)) = rw (v .size, e) in
-          taken (block g (v .list) (w % 2 ^ 16)) (read ∙ rw (← z)) refl (o .leads .0) q (omega (arith, o .leads .2)) (omega (arith, v .counted, v .size, o .leads .1))
+          taken (withData g (v .list) (w % 2 ^ 16)) (read ∙ rw (← z)) refl (o .leads .0) q (omega (arith, o .leads .2)) (omega (arith, v .counted, v .size, o .leads .1))
           (omega (arith, v .counted, length-map (v .list) (valueRow g))) (v .stored ∙ ap (λ (m : ℕ). storeRows b₁ m rest) p ∙ ap (λ (l : List ℕ). storeRows l (k + 1) rest) (t ∙ own)) l
 
 -- from the first module on

@@ -12,13 +12,13 @@ use Rattle.event.proofs.Sequences.{codes-bind, codes-bind-at, codes-map, codes-
 use Rattle.event.proofs.Many.{codes-many}
 use Rattle.event.proofs.Ends.{Ends, ends-bind, ends-map, ends-many}
 use Rattle.event.proofs.Elements.{prints-each}
-use Rattle.frs_layout.specs.Event.{Stamp, PatternUnit, Value, Module, empty, block, Event}
+use Rattle.frs_layout.specs.Event.{Stamp, PatternUnit, Value, Module, empty, withData, Event}
 use Rattle.frs_layout.specs.Layout.{stampChecks, patternChecks, geos, ValidScalers, ValidModule, Formed}
 use Rattle.frs_layout.specs.Reading.{eventOf}
 
 abbrev pub valuesOf : Module → List Value
 valuesOf (empty g) = []
-valuesOf (block g vs c) = vs
+valuesOf (withData g vs c) = vs
 
 module _ {E : Type 0} {stamp : Parser E Stamp} {scaler : Parser E (List ℕ)} {patternUnit : Parser E PatternUnit} {oneModule : List ℕ → Parser E Module}
     {stampP : Stamp → List E} {scalerP : List ℕ → List E} {patternP : PatternUnit → List E} {moduleP : Module → List E}

@@ -16,14 +16,11 @@ use Rattle.event.proofs.Codes.{Codes, At, codes-require}
 use Rattle.event.proofs.Sequences.{codes-bind}
 use Rattle.event.proofs.Ends.{Ends, ends-bind}
 use Rattle.event.proofs.Trips.{in-room, reads}
-use Rattle.frs_layout.specs.Event.{Event}
+use Rattle.frs_layout.specs.Event.{Event, scalerEnd}
 use Rattle.frs_layout.specs.Layout.{patternWords, moduleWords, words, rows, smallestEvent, largestEvent, Formed, Valid}
 use Rattle.frs_layout.specs.Reading.{stamp, scaler, patternUnit, atPattern, oneModule, eventParser, reading, readingInto}
 use Rattle.frs_layout.proofs.Event.{ends-event}
 use Rattle.frs_layout.proofs.Words.{codes-one}
-
-abbrev pub FEvent : List ℕ → List Row → Type 0
-FEvent = SomeEvent Valid words rows
 
 codes-words : (n : ℕ) → Codes (At ended) (eventParser n) words (λ e. T (between smallestEvent largestEvent n) × Formed e)
 codes-words n = codes-bind (λ e. tt) (codes-require (between smallestEvent largestEvent n) 1 0) (λ u g. codes-one) (λ u e g. refl)
@@ -35,11 +32,11 @@ least : (e : Event) → Formed e → smallestEvent ≤ length (words e)
 least e g =
     let more = ifAny patternWords (e .pattern) ++ each moduleWords (e .modules) in
     let some-scaler : 1 ≤ length (e .scalers) = leb→le 1 (length (e .scalers)) (g .scalers .0 .0) in
-    omega (arith, length-append (e .scalers ++ (0x34000000 ∷ [])) more, length-append (e .scalers) (0x34000000 ∷ []))
+    omega (arith, length-append (e .scalers ++ (scalerEnd ∷ [])) more, length-append (e .scalers) (scalerEnd ∷ []))
 
-pub reading-iff : (ws : List ℕ) (rs : List Row) → (reading ws ≡ done rs) ↔ FEvent ws rs
+pub reading-iff : (ws : List ℕ) (rs : List Row) → (reading ws ≡ done rs) ↔ SomeEvent Valid words rows ws rs
 reading-iff = reads Formed words rows largestEvent smallestEvent codes-words ends-words (λ n e. refl) (λ n e h. refl) least
 
 -- Demand 2 for a reading: accepted exactly when some valid event has these longwords, and there is room for its rows, which are the rows given.
-pub reading-in-room : (room : ℕ) (ws : List ℕ) (rs : List Row) → (readingInto room ws ≡ done rs) ↔ (FEvent ws rs × (length rs ≤ room))
+pub reading-in-room : (room : ℕ) (ws : List ℕ) (rs : List Row) → (readingInto room ws ≡ done rs) ↔ (SomeEvent Valid words rows ws rs × (length rs ≤ room))
 reading-in-room room ws rs = in-room 12 room (reading-iff ws rs)

@@ -15,15 +15,15 @@ use Rattle.event.proofs.Elements.{bounds}
 use Rattle.event.proofs.Refusals.{Keeps, keeps-give, keeps-left, keeps-bind, keeps-map, keeps-require, keeps-element, keeps-next, keeps-here, keeps-within, keeps-optionally, keeps-many}
 use Rattle.event.proofs.ReadingRefusals.{fills-words, reading-refused}
 use Rattle.frs_layout.specs.Layout.{rows, smallestEvent, largestEvent, channels, geos}
-use Rattle.frs_layout.specs.Reading.{stamp, blockOf, scalerValue, scalerValues, scalerFooter, scaler, patternBody, patternUnit, atPattern, Header, bare, full, headerOf, headerChecks, value, values, footer, body, oneModule, eventParser, reading}
+use Rattle.frs_layout.specs.Reading.{stamp, blockOf, scalerValue, scalerValues, scalerFooter, scaler, patternBody, patternUnit, atPattern, Header, emptyHeader, dataHeader, headerOf, headerChecks, value, values, footer, body, oneModule, eventParser, reading}
 
 abbrev ofReading : ℕ → Bool
 ofReading n = member n (1 ∷ 5 ∷ 6 ∷ 9 ∷ 10 ∷ 11 ∷ [])
 
 -- a header's checks hang on its case; those of the other longwords have their numbers as they stand
 header-numbers : (seen : List ℕ) (h : Header) → All (λ t. T (ofReading (t .number))) (headerChecks seen h)
-header-numbers seen (bare g) = omega arith
-header-numbers seen (full g n) = omega arith
+header-numbers seen (emptyHeader g) = omega arith
+header-numbers seen (dataHeader g n) = omega arith
 
 there : (s : List ℕ) → T (atPattern s) → 1 ≤ length s
 there [] t = absurd t
@@ -63,8 +63,8 @@ module _ (bound : ℕ) where
       (λ r₁ z. omega arith)
 
   reads-body : (p : ℕ) (h : Header) (s : List ℕ) → p < bound → Reads s (body p h) (λ r. length r ≤ length s)
-  reads-body p (bare g) s b = keeps-give (omega arith)
-  reads-body p (full g n) s b = reads-blockOf p n (values g) (footer g) b (fills-words (value g) channels (λ seen s l. keeps-element (omega arith)) [])
+  reads-body p (emptyHeader g) s b = keeps-give (omega arith)
+  reads-body p (dataHeader g n) s b = reads-blockOf p n (values g) (footer g) b (fills-words (value g) channels (λ seen s l. keeps-element (omega arith)) [])
       (λ vs s l. keeps-next (omega arith) λ c r e. keeps-give (omega arith))
 
   reads-module : (seen s : List ℕ) → 1 ≤ length s → Reads s (oneModule seen) (λ r. length r < length s)

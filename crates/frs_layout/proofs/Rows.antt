@@ -15,9 +15,9 @@ use Rattle.event.proofs.Many.{codes-times}
 use Rattle.event.proofs.Elements.{prints-map}
 use Rattle.event.proofs.RowCodes.{codes-row}
 use Rattle.event.proofs.Impossible.{impossible}
-use Rattle.frs_layout.specs.Event.{Module, empty, block}
+use Rattle.frs_layout.specs.Event.{Module, empty, withData}
 use Rattle.frs_layout.specs.Layout.{stampRow, scalerRow, scalerRowsFrom, scalerBlockRow, scalerRows, patternRow, patternRows, valueRow, moduleRows, rows, stampChecks, countChecks, scalerChecks, patternChecks, valueChecks, channels, ValidScalers, ValidValue, ValidModule, Formed}
-use Rattle.frs_layout.specs.Writing.{stamp, nextIndex, scaler, patternUnit, atPattern, Header, bare, full, headerRow, startsModule, headerOf, headerChecks, value, body, oneModule, eventRowsUpTo, atStamp}
+use Rattle.frs_layout.specs.Writing.{stamp, nextIndex, scaler, patternUnit, atPattern, Header, emptyHeader, dataHeader, firstRow, startsModule, headerOf, headerChecks, value, body, oneModule, eventRowsUpTo, atStamp}
 use Rattle.frs_layout.proofs.Event.{valuesOf, codes-event}
 
 codes-stamp : Codes any stamp (λ s. stampRow s ∷ []) (λ s. Passed (stampChecks 0 s))
@@ -49,74 +49,74 @@ codes-scaler = same
 
 -- modules: the first row, then the values
 abbrev headerIn : Module → Header
-headerIn (empty g) = bare g
-headerIn (block g vs c) = full g (length vs) c
+headerIn (empty g) = emptyHeader g
+headerIn (withData g vs c) = dataHeader g (length vs) c
 
 abbrev bodyRows : Module → List Row
 bodyRows (empty g) = []
-bodyRows (block g vs c) = map (valueRow g) vs
+bodyRows (withData g vs c) = map (valueRow g) vs
 
 abbrev ValidRest : Module → Type 0
 ValidRest (empty g) = Unit {0}
-ValidRest (block g vs c) = Goods ValidValue channels [] vs
+ValidRest (withData g vs c) = Goods ValidValue channels [] vs
 
 codes-value : (g : ℕ) (seen : List ℕ) → Codes any (value g seen) (λ v. valueRow g v ∷ []) (ValidValue seen)
 codes-value g seen = codes-row (ofKind 22) _ (valueRow g) (valueChecks 22 22 seen) (λ v. tt) (λ v g. refl)
 
 codes-body : (h : Header) → Codes any (body h) bodyRows (λ m. (headerIn m ≡ h) × ValidRest m)
-codes-body (bare g) = same (codes-give (empty g)) (λ m e. rw e (refl, tt)) from (λ m e. rw e)
+codes-body (emptyHeader g) = same (codes-give (empty g)) (λ m e. rw e (refl, tt)) from (λ m e. rw e)
   where
-    from : (m : Module) → (headerIn m ≡ bare g) × ValidRest m → m ≡ empty g
+    from : (m : Module) → (headerIn m ≡ emptyHeader g) × ValidRest m → m ≡ empty g
     from (empty g′) p = cc (p .0)
-    from (block g′ vs c) p = cc (p .0)
-codes-body (full g n c) = same (codes-map (λ vs. block g vs c) valuesOf (codes-times channels (codes-value g) n []) (λ vs. refl)) to from print
+    from (withData g′ vs c) p = cc (p .0)
+codes-body (dataHeader g n c) = same (codes-map (λ vs. withData g vs c) valuesOf (codes-times channels (codes-value g) n []) (λ vs. refl)) to from print
   where
     Raw : Module → Type 0
-    Raw m = ((length (valuesOf m) ≡ n) × Goods ValidValue channels [] (valuesOf m)) × (m ≡ block g (valuesOf m) c)
+    Raw m = ((length (valuesOf m) ≡ n) × Goods ValidValue channels [] (valuesOf m)) × (m ≡ withData g (valuesOf m) c)
 
-    to : (m : Module) → Raw m → (headerIn m ≡ full g n c) × ValidRest m
-    to m e = rw (e .1) (ap (λ k. full g k c) (e .0 .0), e .0 .1)
+    to : (m : Module) → Raw m → (headerIn m ≡ dataHeader g n c) × ValidRest m
+    to m e = rw (e .1) (ap (λ k. dataHeader g k c) (e .0 .0), e .0 .1)
 
-    from : (m : Module) → (headerIn m ≡ full g n c) × ValidRest m → Raw m
+    from : (m : Module) → (headerIn m ≡ dataHeader g n c) × ValidRest m → Raw m
     from (empty g′) p = impossible (cc (p .0))
-    from (block g′ vs c′) p = ((cc (p .0), p .1), cc (p .0))
+    from (withData g′ vs c′) p = ((cc (p .0), p .1), cc (p .0))
 
     print : (m : Module) → Raw m → prints (λ t v. valueRow g v ∷ []) channels [] (valuesOf m) ≡ bodyRows m
     print m e = rw (e .1) (prints-map (valueRow g) channels [] (valuesOf m))
 
 codes-module : (seen : List ℕ) → Codes any (oneModule seen) moduleRows (ValidModule seen)
 codes-module seen = same
-    (codes-bind headerIn (codes-row startsModule headerOf headerRow (headerChecks seen) stands (λ h g. back h)) (λ h p. codes-body h) (λ h m e. e .0))
+    (codes-bind headerIn (codes-row startsModule headerOf firstRow (headerChecks seen) stands (λ h g. back h)) (λ h p. codes-body h) (λ h m e. e .0))
     to from print
   where
     Raw : Module → Type 0
     Raw m = Passed (headerChecks seen (headerIn m)) × ((headerIn m ≡ headerIn m) × ValidRest m)
 
-    stands : (h : Header) → T (startsModule (headerRow h))
-    stands (bare g) = tt
-    stands (full g n c) = tt
+    stands : (h : Header) → T (startsModule (firstRow h))
+    stands (emptyHeader g) = tt
+    stands (dataHeader g n c) = tt
 
-    back : (h : Header) → headerOf (headerRow h) ≡ h
-    back (bare g) = refl
-    back (full g n c) = refl
+    back : (h : Header) → headerOf (firstRow h) ≡ h
+    back (emptyHeader g) = refl
+    back (dataHeader g n c) = refl
 
     to : (m : Module) → Raw m → ValidModule seen m
     to (empty g) p = search
-    to (block g vs c) p = search
+    to (withData g vs c) p = search
 
     from : (m : Module) → ValidModule seen m → Raw m
     from (empty g) p = search
-    from (block g vs c) p = search
+    from (withData g vs c) p = search
 
-    print : (m : Module) → Raw m → headerRow (headerIn m) ∷ bodyRows m ≡ moduleRows m
+    print : (m : Module) → Raw m → firstRow (headerIn m) ∷ bodyRows m ≡ moduleRows m
     print (empty g) p = refl
-    print (block g vs c) p = refl
+    print (withData g vs c) p = refl
 
 -- the kind of a module's first row, which ends no event and is no pattern unit's
-starts : (P : Row → Bool) → ((g n c : ℕ) → P (headerRow (full g n c)) ≡ false) → ((g : ℕ) → P (headerRow (bare g)) ≡ false) → (look : List Row → Bool)
+starts : (P : Row → Bool) → ((g n c : ℕ) → P (firstRow (dataHeader g n c)) ≡ false) → ((g : ℕ) → P (firstRow (emptyHeader g)) ≡ false) → (look : List Row → Bool)
     → ((x : Row) (r : List Row) → look (x ∷ r) ≡ P x) → (seen : List ℕ) (m : Module) → ValidModule seen m → (r : List Row) → look (moduleRows m ++ r) ≡ false
-starts P f b look e seen (empty g) v r = rw (e (headerRow (bare g)) r) (b g)
-starts P f b look e seen (block g vs c) v r = rw (e (headerRow (full g (length vs) c)) (map (valueRow g) vs ++ r)) (f g (length vs) c)
+starts P f b look e seen (empty g) v r = rw (e (firstRow (emptyHeader g)) r) (b g)
+starts P f b look e seen (withData g vs c) v r = rw (e (firstRow (dataHeader g (length vs) c)) (map (valueRow g) vs ++ r)) (f g (length vs) c)
 
 codes-upTo : (stop : List Row → Bool) → stop [] ≡ true → ((seen : List ℕ) (m : Module) → ValidModule seen m → (r : List Row) → stop (moduleRows m ++ r) ≡ false)
     → ((r : List Row) → T (stop r) → atPattern r ≡ false) → Codes (At stop) (eventRowsUpTo stop) rows Formed

@@ -15,20 +15,20 @@ use Rattle.event.proofs.Sequences.{codes-bind}
 use Rattle.event.proofs.Many.{codes-many}
 use Rattle.event.proofs.Elements.{codes-layout, codes-exactly, codes-several, prints-map, each-map, map-self}
 use Rattle.event.proofs.Impossible.{impossible}
-use Rattle.frs_layout.specs.Event.{Stamp, PatternUnit, Value, Module, empty, block}
-use Rattle.frs_layout.specs.Layout.{longword, halves, datumBits, valueWord, stampWords, scalerWords, patternWords, moduleWords, words, stampChecks, countChecks, scalerChecks, patternChecks, valueChecks, counterChecks, channels, ValidScalers, ValidValue, ValidModule, Formed}
-use Rattle.frs_layout.specs.Reading.{under, stamp, blockOf, scalerValues, scaler, patternUnit, atPattern, Header, bare, full, headerWord, headerOf, headerChecks, valueOf, value, values, body, oneModule, eventUpTo, atStamp}
+use Rattle.frs_layout.specs.Event.{Stamp, PatternUnit, Value, Module, empty, withData, scalerGeo, patternGeo, stampIdentifier, scalerEnd, patternHeader, patternEnd}
+use Rattle.frs_layout.specs.Layout.{halves, datumBits, valueWord, stampWords, scalerWords, patternWords, moduleWords, words, stampChecks, countChecks, scalerChecks, patternChecks, valueChecks, counterChecks, channels, ValidScalers, ValidValue, ValidModule, Formed, headerWord, footerWord, emptyWord}
+use Rattle.frs_layout.specs.Reading.{dataUnder, stamp, blockOf, scalerValues, scaler, patternUnit, atPattern, Header, emptyHeader, dataHeader, firstWord, headerOf, headerChecks, valueOf, value, values, body, oneModule, eventUpTo, atStamp}
 use Rattle.frs_layout.proofs.Event.{valuesOf, codes-event}
 
-codes-under : (upper : ℕ) → Codes any (under upper) (λ d. halves upper d ∷ []) (λ d. Passed (belowChecks 0 (2 ^ 16) d))
-codes-under upper = codes-layout 10 (_% 2 ^ 16) (halves upper) (belowChecks 10 (2 ^ 16)) (λ d p. omega (arith, ltb→lt))
+codes-dataUnder : (upper : ℕ) → Codes any (dataUnder upper) (λ d. halves upper d ∷ []) (λ d. Passed (belowChecks 0 (2 ^ 16) d))
+codes-dataUnder upper = codes-layout 10 (_% 2 ^ 16) (halves upper) (belowChecks 10 (2 ^ 16)) (λ d p. omega (arith, ltb→lt))
 
 codes-stamp : Codes any stamp stampWords (λ s. Passed (stampChecks 0 s))
 codes-stamp = same
-    (codes-bind (λ s. tt) (codes-exactly 10 0x00000200) (λ u p.
-    codes-bind (λ s. s .word1) (codes-under 0x00f7) (λ a p.
-    codes-bind (λ s. s .word2) (codes-under 0x01f7) (λ b p.
-    codes-bind (λ s. s .word3) (codes-under 0x02f7) (λ c p. codes-give _)
+    (codes-bind (λ s. tt) (codes-exactly 10 stampIdentifier) (λ u p.
+    codes-bind (λ s. s .word1) (codes-dataUnder 0x00f7) (λ a p.
+    codes-bind (λ s. s .word2) (codes-dataUnder 0x01f7) (λ b p.
+    codes-bind (λ s. s .word3) (codes-dataUnder 0x02f7) (λ c p. codes-give _)
     (λ c s g. ap (λ (x : Stamp). x .word3) g))
     (λ b s g. ap (λ (x : Stamp). x .word2) (g .1)))
     (λ a s g. ap (λ (x : Stamp). x .word1) (g .1 .1)))
@@ -50,17 +50,17 @@ codes-scalerValues = same (codes-several ended (codes-layout 10 (λ w. w) (λ w.
 
 codes-scaler : Codes any scaler scalerWords ValidScalers
 codes-scaler = codes-here λ p. same
-    (codes-bind length (codes-layout 6 (_% 2 ^ 6) (longword 6 2) (countChecks 6) (λ n p. omega (arith, leb→le)))
-    (λ n g. codes-blockOf p n (λ vs. vs) codes-scalerValues (λ vs. codes-bind (λ u. tt) (codes-exactly 9 0x34000000) (λ u q. codes-give vs) (λ u b g. refl)) (λ vs b g. g .1))
+    (codes-bind length (codes-layout 6 (_% 2 ^ 6) (headerWord scalerGeo) (countChecks 6) (λ n p. omega (arith, leb→le)))
+    (λ n g. codes-blockOf p n (λ vs. vs) codes-scalerValues (λ vs. codes-bind (λ u. tt) (codes-exactly 9 scalerEnd) (λ u q. codes-give vs) (λ u b g. refl)) (λ vs b g. g .1))
     (λ n vs g. g .0 .1))
     (λ vs g. (g .0, g .1 .0 .0)) (λ vs g. (g .0, ((g .1, refl), (tt, refl)))) (λ vs g. refl)
 
 codes-pattern : Codes any patternUnit patternWords (λ p. Passed (patternChecks 0 p))
 codes-pattern = codes-here λ k. same
-    (codes-bind (λ p. tt) (codes-exactly 6 0x2a000002) (λ u g. codes-within 5 k 3 (less
-    (codes-bind (λ p. p .register) (codes-under 0x2800) (λ r g.
-    codes-bind (λ p. p .multiplicity) (codes-under 0x2801) (λ m g.
-    codes-bind (λ p. tt) (codes-exactly 9 0x2c000000) (λ u g. codes-give _) (λ u p g. refl))
+    (codes-bind (λ p. tt) (codes-exactly 6 patternHeader) (λ u g. codes-within 5 k 3 (less
+    (codes-bind (λ p. p .register) (codes-dataUnder 0x2800) (λ r g.
+    codes-bind (λ p. p .multiplicity) (codes-dataUnder 0x2801) (λ m g.
+    codes-bind (λ p. tt) (codes-exactly 9 patternEnd) (λ u g. codes-give _) (λ u p g. refl))
     (λ m p g. ap (λ (x : PatternUnit). x .multiplicity) (g .1)))
     (λ r p g. ap (λ (x : PatternUnit). x .register) (g .1 .1)))
     (λ r t. tt))) (λ u p g. refl))
@@ -68,31 +68,31 @@ codes-pattern = codes-here λ k. same
 
 -- modules: the header, then the body
 abbrev headerIn : Module → Header
-headerIn (empty g) = bare g
-headerIn (block g vs c) = full g (length vs)
+headerIn (empty g) = emptyHeader g
+headerIn (withData g vs c) = dataHeader g (length vs)
 
 abbrev bodyWords : Module → List ℕ
 bodyWords (empty g) = []
-bodyWords (block g vs c) = map (valueWord g) vs ++ (longword g 4 c ∷ [])
+bodyWords (withData g vs c) = map (valueWord g) vs ++ (footerWord g c ∷ [])
 
 -- the body's rules apart from the count, which stands in the header
 abbrev ValidRest : Module → Type 0
 ValidRest (empty g) = Unit {0}
-ValidRest (block g vs c) = Goods ValidValue channels [] vs × Passed (counterChecks 0 c)
+ValidRest (withData g vs c) = Goods ValidValue channels [] vs × Passed (counterChecks 0 c)
 
 abbrev counterOf : Module → ℕ
 counterOf (empty g) = 0
-counterOf (block g vs c) = c
+counterOf (withData g vs c) = c
 
-header-back : (seen : List ℕ) (h : Header) → Passed (headerChecks seen h) → headerOf (headerWord h) ≡ h
-header-back seen (bare g) p =
-    let f : headerWord (bare g) / 2 ^ 24 % 2 ^ 3 ≡ 6 = omega (arith, ltb→lt) in
-    let e : headerWord (bare g) / 2 ^ 27 ≡ g = omega (arith, ltb→lt) in
+header-back : (seen : List ℕ) (h : Header) → Passed (headerChecks seen h) → headerOf (firstWord h) ≡ h
+header-back seen (emptyHeader g) p =
+    let f : firstWord (emptyHeader g) / 2 ^ 24 % 2 ^ 3 ≡ 6 = omega (arith, ltb→lt) in
+    let e : firstWord (emptyHeader g) / 2 ^ 27 ≡ g = omega (arith, ltb→lt) in
     rw (eq-eqb _ 6 f, e)
-header-back seen (full g n) p =
-    let f : headerWord (full g n) / 2 ^ 24 % 2 ^ 3 ≡ 6 → ⊥ = omega (arith, ltb→lt, leb→le) in
-    let e : headerWord (full g n) / 2 ^ 27 ≡ g = omega (arith, ltb→lt, leb→le) in
-    let k : headerWord (full g n) % 2 ^ 6 ≡ n = omega (arith, ltb→lt, leb→le) in
+header-back seen (dataHeader g n) p =
+    let f : firstWord (dataHeader g n) / 2 ^ 24 % 2 ^ 3 ≡ 6 → ⊥ = omega (arith, ltb→lt, leb→le) in
+    let e : firstWord (dataHeader g n) / 2 ^ 27 ≡ g = omega (arith, ltb→lt, leb→le) in
+    let k : firstWord (dataHeader g n) % 2 ^ 6 ≡ n = omega (arith, ltb→lt, leb→le) in
     rw (ne-eqb _ 6 f, e, k)
 
 pub codes-value : (g : ℕ) (seen : List ℕ) → Codes any (value g seen) (λ v. valueWord g v ∷ []) (ValidValue seen)
@@ -108,32 +108,32 @@ pub codes-values : (g : ℕ) → Codes (At ended) (values g) (map (valueWord g))
 codes-values g = same (codes-many channels (codes-value g) ended (λ st v p r. refl) refl []) (λ vs p. p) (λ vs p. p) (λ vs p. prints-map (valueWord g) channels [] vs)
 
 codes-body : (p : ℕ) (h : Header) → Codes any (body p h) bodyWords (λ m. (headerIn m ≡ h) × ValidRest m)
-codes-body p (bare g) = same (codes-give (empty g)) (λ m e. rw e (refl, tt)) from (λ m e. rw e)
+codes-body p (emptyHeader g) = same (codes-give (empty g)) (λ m e. rw e (refl, tt)) from (λ m e. rw e)
   where
-    from : (m : Module) → (headerIn m ≡ bare g) × ValidRest m → m ≡ empty g
+    from : (m : Module) → (headerIn m ≡ emptyHeader g) × ValidRest m → m ≡ empty g
     from (empty g′) v = cc (v .0)
-    from (block g′ vs c) v = cc (v .0)
-codes-body p (full g n) = same
+    from (withData g′ vs c) v = cc (v .0)
+codes-body p (dataHeader g n) = same
     (codes-blockOf p n valuesOf (codes-values g) (λ vs. codes-bind counterOf
-    (codes-layout 9 (_% 2 ^ 16) (longword g 4) (counterChecks 9) (λ c q. omega (arith, ltb→lt))) (λ c q. codes-give (block g vs c)) (λ c m e. ap counterOf e)) (λ vs m e. ap valuesOf (e .1)))
+    (codes-layout 9 (_% 2 ^ 16) (footerWord g) (counterChecks 9) (λ c q. omega (arith, ltb→lt))) (λ c q. codes-give (withData g vs c)) (λ c m e. ap counterOf e)) (λ vs m e. ap valuesOf (e .1)))
     to from print
   where
     Raw : Module → Type 0
-    Raw m = (Goods ValidValue channels [] (valuesOf m) × (length (map (valueWord g) (valuesOf m)) ≡ n)) × (Passed (counterChecks 0 (counterOf m)) × (m ≡ block g (valuesOf m) (counterOf m)))
+    Raw m = (Goods ValidValue channels [] (valuesOf m) × (length (map (valueWord g) (valuesOf m)) ≡ n)) × (Passed (counterChecks 0 (counterOf m)) × (m ≡ withData g (valuesOf m) (counterOf m)))
 
-    to : (m : Module) → Raw m → (headerIn m ≡ full g n) × ValidRest m
-    to m e = rw (e .1 .1) (ap (full g) (rw (length-map (valuesOf m) (valueWord g)) at (e .0 .1)), (e .0 .0, e .1 .0))
+    to : (m : Module) → Raw m → (headerIn m ≡ dataHeader g n) × ValidRest m
+    to m e = rw (e .1 .1) (ap (dataHeader g) (rw (length-map (valuesOf m) (valueWord g)) at (e .0 .1)), (e .0 .0, e .1 .0))
 
-    from : (m : Module) → (headerIn m ≡ full g n) × ValidRest m → Raw m
+    from : (m : Module) → (headerIn m ≡ dataHeader g n) × ValidRest m → Raw m
     from (empty g′) v = impossible (cc (v .0))
-    from (block g′ vs c) v = ((v .1 .0, rw (length-map vs (valueWord g)) (cc (v .0))), (v .1 .1, cc (v .0)))
+    from (withData g′ vs c) v = ((v .1 .0, rw (length-map vs (valueWord g)) (cc (v .0))), (v .1 .1, cc (v .0)))
 
-    print : (m : Module) → Raw m → map (valueWord g) (valuesOf m) ++ (longword g 4 (counterOf m) ∷ []) ≡ bodyWords m
+    print : (m : Module) → Raw m → map (valueWord g) (valuesOf m) ++ (footerWord g (counterOf m) ∷ []) ≡ bodyWords m
     print m e = rw (e .1 .1)
 
 pub codes-module : (seen : List ℕ) → Codes any (oneModule seen) moduleWords (ValidModule seen)
 codes-module seen = codes-here λ k. same
-    (codes-bind headerIn (codes-layout 6 headerOf headerWord (headerChecks seen) (header-back seen)) (λ h p. codes-body k h) (λ h m e. e .0))
+    (codes-bind headerIn (codes-layout 6 headerOf firstWord (headerChecks seen) (header-back seen)) (λ h p. codes-body k h) (λ h m e. e .0))
     to from print
   where
     Raw : Module → Type 0
@@ -141,21 +141,21 @@ codes-module seen = codes-here λ k. same
 
     to : (m : Module) → Raw m → ValidModule seen m
     to (empty g) p = search
-    to (block g vs c) p = search
+    to (withData g vs c) p = search
 
     from : (m : Module) → ValidModule seen m → Raw m
     from (empty g) p = search
-    from (block g vs c) p = search
+    from (withData g vs c) p = search
 
-    print : (m : Module) → Raw m → headerWord (headerIn m) ∷ bodyWords m ≡ moduleWords m
+    print : (m : Module) → Raw m → firstWord (headerIn m) ∷ bodyWords m ≡ moduleWords m
     print (empty g) p = refl
-    print (block g vs c) p = refl
+    print (withData g vs c) p = refl
 
 -- a module has another GEO than a pattern unit
 no-module : (seen : List ℕ) (m : Module) → ValidModule seen m → (r : List ℕ) → atPattern (moduleWords m ++ r) ≡ false
-no-module seen (empty g) v r = let e : longword g 6 0 / 2 ^ 27 ≡ g = omega arith in rw e (not-true (eqb g 5) (v .0 .1 .0))
-no-module seen (block g vs c) v r =
-    let e : longword g 2 (length vs) / 2 ^ 27 ≡ g = omega (arith, leb→le) in rw e (not-true (eqb g 5) (v .0 .1 .0))
+no-module seen (empty g) v r = let e : emptyWord g / 2 ^ 27 ≡ g = omega arith in rw e (not-true (eqb g patternGeo) (v .0 .1 .0))
+no-module seen (withData g vs c) v r =
+    let e : headerWord g (length vs) / 2 ^ 27 ≡ g = omega (arith, leb→le) in rw e (not-true (eqb g patternGeo) (v .0 .1 .0))
 
 codes-upTo : (stop : List ℕ → Bool) → stop [] ≡ true → ((seen : List ℕ) (m : Module) → ValidModule seen m → (r : List ℕ) → stop (moduleWords m ++ r) ≡ false)
     → ((r : List ℕ) → T (stop r) → atPattern r ≡ false) → Codes (At stop) (eventUpTo stop) words Formed
@@ -164,7 +164,7 @@ codes-upTo stop halt on no-stop = codes-event codes-stamp codes-scaler codes-pat
 -- one event alone, and one in a run
 pub not-ended : (seen : List ℕ) (m : Module) → ValidModule seen m → (r : List ℕ) → ended (moduleWords m ++ r) ≡ false
 not-ended seen (empty g) v r = refl
-not-ended seen (block g vs c) v r = refl
+not-ended seen (withData g vs c) v r = refl
 
 pub codes-one : Codes (At ended) (eventUpTo ended) words Formed
 codes-one = codes-upTo ended refl not-ended no-stop
@@ -177,9 +177,9 @@ pub codes-run : Codes (At atStamp) (eventUpTo atStamp) words Formed
 codes-run = codes-upTo atStamp refl on no-stop
   where
     on : (seen : List ℕ) (m : Module) → ValidModule seen m → (r : List ℕ) → atStamp (moduleWords m ++ r) ≡ false
-    on seen (empty g) v r = ne-eqb (longword g 6 0) 0x200 (omega arith)
-    on seen (block g vs c) v r = ne-eqb (longword g 2 (length vs)) 0x200 (omega arith)
+    on seen (empty g) v r = ne-eqb (emptyWord g) stampIdentifier (omega arith)
+    on seen (withData g vs c) v r = ne-eqb (headerWord g (length vs)) stampIdentifier (omega arith)
 
     no-stop : (r : List ℕ) → T (atStamp r) → atPattern r ≡ false
     no-stop [] t = refl
-    no-stop (w ∷ r) t = rw (eqb→eq w 0x200 t)
+    no-stop (w ∷ r) t = rw (eqb→eq w stampIdentifier t)

@@ -8,12 +8,12 @@ use Rattle.event.specs.declared.Row.{Row}
 use Rattle.event.specs.Parser.{ended, optionally}
 use Rattle.event.specs.Outcome.{done}
 use Rattle.event.specs.Rows.{flat}
+use Rattle.event.specs.Demands.{SomeEvent}
 use Rattle.event.proofs.Trips.{writes}
-use Rattle.frs_layout.specs.Layout.{words, rows, largestEvent, Formed}
+use Rattle.frs_layout.specs.Layout.{words, rows, largestEvent, Formed, Valid}
 use Rattle.frs_layout.specs.Writing.{stamp, scaler, patternUnit, atPattern, oneModule, writing}
 use Rattle.frs_layout.proofs.Event.{ends-event}
 use Rattle.frs_layout.proofs.Rows.{codes-one}
-use Rattle.frs_layout.proofs.Reading.{FEvent}
 
-pub writing-iff : (xs ws : List ℕ) → (writing xs ≡ done ws) ↔ ((rs : List Row) × (flat rs ≡ xs) × FEvent ws rs)
+pub writing-iff : (xs ws : List ℕ) → (writing xs ≡ done ws) ↔ ((rs : List Row) × (flat rs ≡ xs) × SomeEvent Valid words rows ws rs)
 writing-iff = writes Formed words rows largestEvent codes-one (ends-event stamp scaler (optionally atPattern patternUnit) oneModule ended)

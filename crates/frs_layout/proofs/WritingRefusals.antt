@@ -14,12 +14,12 @@ use Rattle.event.specs.Writing.{RefusedAt}
 use Rattle.event.proofs.Refusals.{keeps-give, keeps-left, keeps-bind, keeps-map, keeps-next, keeps-optionally}
 use Rattle.event.proofs.WritingRefusals.{Writes, Takes, takes-row, writes-times, writes-many, writing-refused}
 use Rattle.frs_layout.specs.Layout.{words, largestEvent, channels, geos}
-use Rattle.frs_layout.specs.Writing.{scalerAt, nextIndex, scaler, patternUnit, atPattern, Header, bare, full, headerOf, headerChecks, value, body, oneModule, eventRowsUpTo, writing}
+use Rattle.frs_layout.specs.Writing.{scalerAt, nextIndex, scaler, patternUnit, atPattern, Header, emptyHeader, dataHeader, headerOf, headerChecks, value, body, oneModule, eventRowsUpTo, writing}
 
 -- a header's checks hang on its case; those of the other rows have their numbers as they stand
 header-numbers : (seen : List ℕ) (h : Header) → All (λ t. T (between 21 22 (t .number))) (headerChecks seen h)
-header-numbers seen (bare g) = omega arith
-header-numbers seen (full g n c) = omega arith
+header-numbers seen (emptyHeader g) = omega arith
+header-numbers seen (dataHeader g n c) = omega arith
 
 module _ {count : ℕ} where
   takes-scaler : (s : List Row) → Takes count s scaler
@@ -29,8 +29,8 @@ module _ {count : ℕ} where
   writes-pattern s = keeps-optionally atPattern patternUnit (λ t. keeps-left (takes-row (omega arith)) (λ r l. omega arith)) (λ t. omega arith)
 
   writes-body : (h : Header) (s : List Row) → Writes count s (body h)
-  writes-body (bare g) s = keeps-give (omega arith)
-  writes-body (full g n c) s = keeps-map _ (writes-times (value g) channels (λ seen s. takes-row (omega arith)) n [] s)
+  writes-body (emptyHeader g) s = keeps-give (omega arith)
+  writes-body (dataHeader g n c) s = keeps-map _ (writes-times (value g) channels (λ seen s. takes-row (omega arith)) n [] s)
 
   takes-module : (seen : List ℕ) (s : List Row) → Takes count s (oneModule seen)
   takes-module seen s = keeps-next (tt, (λ r. (tt, (tt, header-numbers seen (headerOf r)))), omega arith) λ h r e. keeps-left (writes-body h r) (λ r₁ l. omega arith)

@@ -22,7 +22,7 @@ pub record Value : Type 0 where
 -- a module without data, and one with values and an event counter
 pub data Module : Type 0 where
   empty : (geo : ℕ) → Module
-  block : (geo : ℕ) → (values : List Value) → (counter : ℕ) → Module
+  withData : (geo : ℕ) → (values : List Value) → (counter : ℕ) → Module
 
 -- the scalers stand in the order of their index
 pub record Event : Type 0 where
@@ -33,4 +33,41 @@ pub record Event : Type 0 where
 
 abbrev pub geoOf : Module → ℕ
 geoOf (empty geo) = geo
-geoOf (block geo values counter) = geo
+geoOf (withData geo values counter) = geo
+
+-- The GEOs of the scaler and of the pattern unit; a module has neither.
+abbrev pub scalerGeo : ℕ
+scalerGeo = 6
+
+abbrev pub patternGeo : ℕ
+patternGeo = 5
+
+-- The longwords and the upper halves that document 01 prints: of the stamp,
+abbrev pub stampIdentifier : ℕ
+stampIdentifier = 0x00000200
+
+abbrev pub word1Identifier : ℕ
+word1Identifier = 0x00f7
+
+abbrev pub word2Identifier : ℕ
+word2Identifier = 0x01f7
+
+abbrev pub word3Identifier : ℕ
+word3Identifier = 0x02f7
+
+-- of the scaler,
+abbrev pub scalerEnd : ℕ
+scalerEnd = 0x34000000
+
+-- of the pattern unit.
+abbrev pub patternHeader : ℕ
+patternHeader = 0x2a000002
+
+abbrev pub registerIdentifier : ℕ
+registerIdentifier = 0x2800
+
+abbrev pub multiplicityIdentifier : ℕ
+multiplicityIdentifier = 0x2801
+
+abbrev pub patternEnd : ℕ
+patternEnd = 0x2c000000

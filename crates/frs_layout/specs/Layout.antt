@@ -10,7 +10,7 @@ use Rattle.event.specs.Parser.{Test, test, Passed, Goods, All, each, ifAny, IfA
 use Rattle.event.specs.Words.{belowChecks}
 use Rattle.event.specs.Rows.{row}
 use Rattle.event.specs.Demands.{Sized}
-use Rattle.frs_layout.specs.Event.{Stamp, PatternUnit, Value, Module, empty, block, Event, geoOf}
+use Rattle.frs_layout.specs.Event.{Stamp, PatternUnit, Value, Module, empty, withData, Event, geoOf, scalerGeo, patternGeo, stampIdentifier, word1Identifier, word2Identifier, word3Identifier, scalerEnd, patternHeader, registerIdentifier, multiplicityIdentifier, patternEnd}
 
 -- Longwords.
 
@@ -31,18 +31,29 @@ abbrev pub valueWord : (geo : ℕ) → Value → ℕ
 valueWord geo v = longword geo 0 (v .channel * 2 ^ 16 + v .datum)
 
 abbrev pub stampWords : Stamp → List ℕ
-stampWords s = 0x00000200 ∷ halves 0x00f7 (s .word1) ∷ halves 0x01f7 (s .word2) ∷ halves 0x02f7 (s .word3) ∷ []
+stampWords s = stampIdentifier ∷ halves word1Identifier (s .word1) ∷ halves word2Identifier (s .word2) ∷ halves word3Identifier (s .word3) ∷ []
+
+-- a header: flag 2 over the count of the longwords that follow
+abbrev pub headerWord : (geo count : ℕ) → ℕ
+headerWord geo count = longword geo 2 count
+
+-- a module's footer: flag 4 over the event counter
+abbrev pub footerWord : (geo counter : ℕ) → ℕ
+footerWord geo counter = longword geo 4 counter
+
+-- an empty module: flag 6
+abbrev pub emptyWord : (geo : ℕ) → ℕ
+emptyWord geo = longword geo 6 0
 
 abbrev pub scalerWords : List ℕ → List ℕ
-scalerWords vs = longword 6 2 (length vs) ∷ (vs ++ (0x34000000 ∷ []))
+scalerWords vs = headerWord scalerGeo (length vs) ∷ (vs ++ (scalerEnd ∷ []))
 
 abbrev pub patternWords : PatternUnit → List ℕ
-patternWords p = 0x2a000002 ∷ halves 0x2800 (p .register) ∷ halves 0x2801 (p .multiplicity) ∷ 0x2c000000 ∷ []
+patternWords p = patternHeader ∷ halves registerIdentifier (p .register) ∷ halves multiplicityIdentifier (p .multiplicity) ∷ patternEnd ∷ []
 
--- empty: flag 6; else header flag 2 and the count, the data, footer flag 4 and the counter
 abbrev pub moduleWords : Module → List ℕ
-moduleWords (empty geo) = longword geo 6 0 ∷ []
-moduleWords (block geo vs counter) = longword geo 2 (length vs) ∷ (map (valueWord geo) vs ++ (longword geo 4 counter ∷ []))
+moduleWords (empty geo) = emptyWord geo ∷ []
+moduleWords (withData geo vs counter) = headerWord geo (length vs) ∷ (map (valueWord geo) vs ++ (footerWord geo counter ∷ []))
 
 abbrev pub words : Event → List ℕ
 words e = stampWords (e .stamp) ++ (scalerWords (e .scalers) ++ (ifAny patternWords (e .pattern) ++ each moduleWords (e .modules)))
@@ -52,22 +63,22 @@ words e = stampWords (e .stamp) ++ (scalerWords (e .scalers) ++ (ifAny patternWo
 abbrev pub stampRow : Stamp → Row
 stampRow s = row 16 (s .word1) (s .word2) (s .word3)
 
+abbrev pub scalerBlockRow : (count : ℕ) → Row
+scalerBlockRow count = row 17 scalerGeo count 0
+
 -- one scaler; the index counts from 0
 abbrev pub scalerRow : (index value : ℕ) → Row
-scalerRow index value = row 18 6 index value
+scalerRow index value = row 18 scalerGeo index value
 
 abbrev pub scalerRowsFrom : (index : ℕ) → List ℕ → List Row
 scalerRowsFrom i [] = []
 scalerRowsFrom i (v ∷ vs) = scalerRow i v ∷ scalerRowsFrom (suc i) vs
 
-abbrev pub scalerBlockRow : (count : ℕ) → Row
-scalerBlockRow count = row 17 6 count 0
-
 abbrev pub scalerRows : List ℕ → List Row
 scalerRows vs = scalerBlockRow (length vs) ∷ scalerRowsFrom 0 vs
 
 abbrev pub patternRow : PatternUnit → Row
-patternRow p = row 19 5 (p .multiplicity) (p .register)
+patternRow p = row 19 patternGeo (p .multiplicity) (p .register)
 
 abbrev pub patternRows : PatternUnit → List Row
 patternRows p = patternRow p ∷ []
@@ -75,10 +86,16 @@ patternRows p = patternRow p ∷ []
 abbrev pub valueRow : (geo : ℕ) → Value → Row
 valueRow geo v = row 22 geo (v .channel) (v .datum)
 
+abbrev pub emptyRow : (geo : ℕ) → Row
+emptyRow geo = row 20 geo 0 0
+
+abbrev pub moduleRow : (geo count counter : ℕ) → Row
+moduleRow geo count counter = row 21 geo count counter
+
 -- row 21 before its values
 abbrev pub moduleRows : Module → List Row
-moduleRows (empty geo) = row 20 geo 0 0 ∷ []
-moduleRows (block geo vs counter) = row 21 geo (length vs) counter ∷ map (valueRow geo) vs
+moduleRows (empty geo) = emptyRow geo ∷ []
+moduleRows (withData geo vs counter) = moduleRow geo (length vs) counter ∷ map (valueRow geo) vs
 
 abbrev pub rows : Event → List Row
 rows e = stampRow (e .stamp) ∷ (scalerRows (e .scalers) ++ (ifAny patternRows (e .pattern) ++ each moduleRows (e .modules)))
@@ -98,9 +115,9 @@ scalerChecks n v = belowChecks n (2 ^ 32) v
 abbrev pub patternChecks : ℕ → PatternUnit → List Test
 patternChecks n p = test n (ltb (p .register) (2 ^ 16)) ∷ test n (ltb (p .multiplicity) (2 ^ 16)) ∷ []
 
--- any GEO but 5 and 6, each GEO once
+-- any GEO but the scaler's and the pattern unit's, each GEO once
 abbrev pub geoChecks : ℕ → ℕ → List ℕ → ℕ → List Test
-geoChecks n m seen g = test n (ltb g (2 ^ 5)) ∷ test n (not (eqb g 5)) ∷ test n (not (eqb g 6)) ∷ test m (fresh g seen) ∷ []
+geoChecks n m seen g = test n (ltb g (2 ^ 5)) ∷ test n (not (eqb g patternGeo)) ∷ test n (not (eqb g scalerGeo)) ∷ test m (fresh g seen) ∷ []
 
 -- no channel twice in a module
 abbrev pub valueChecks : ℕ → ℕ → List ℕ → Value → List Test
@@ -122,12 +139,9 @@ ValidScalers vs = Passed (countChecks 0 (length vs)) × All (λ v. Passed (scale
 abbrev pub ValidValue : List ℕ → Value → Type 0
 ValidValue seen v = Passed (valueChecks 0 0 seen v)
 
-abbrev pub ValidBlock : List Value → ℕ → Type 0
-ValidBlock vs counter = Passed (countChecks 0 (length vs)) × Goods ValidValue channels [] vs × Passed (counterChecks 0 counter)
-
-abbrev pub ValidBody : Module → Type 0
+abbrev ValidBody : Module → Type 0
 ValidBody (empty geo) = Unit {0}
-ValidBody (block geo vs counter) = ValidBlock vs counter
+ValidBody (withData geo vs counter) = Passed (countChecks 0 (length vs)) × Goods ValidValue channels [] vs × Passed (counterChecks 0 counter)
 
 abbrev pub ValidModule : List ℕ → Module → Type 0
 ValidModule seen m = Passed (geoChecks 0 0 seen (geoOf m)) × ValidBody m

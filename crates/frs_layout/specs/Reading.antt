@@ -1,6 +1,6 @@
 -- Reading one event of dialect F: its rows, or the first refusal and its place. Each line is a rule, in the order of document 01.
--- (On 32-bit longwords some tests never fail, and stand here because the same tables serve `Valid` and the writing: that a field is as wide as its
--- bits, that a scaler is below 2 ^ 32. Nor does a block that fits lack the longwords of its count.)
+-- (On 32-bit longwords some tests never fail: that a field is as wide as its bits, or a scaler below 2 ^ 32, is asked of rows, and stands here in the same
+-- tables or words. Nor does a block that fits lack the longwords of its count.)
 -- Assumes nothing.
 use Prim.Native.Nat.{ℕ, _+_, _/_, _%_, _^_}
 use mathlib.Core.Bool.{Bool, true, false, cond}
@@ -11,20 +11,20 @@ use lib.ListN.{length}
 use Rattle.event.specs.declared.Row.{Row}
 use Rattle.event.specs.Parser.{Parser, Test, ended, _>>=_, _>>_, give, here, require, within, optionally, many, several}
 use Rattle.event.specs.Words.{layout, exactly, between, belowChecks}
-use Rattle.event.specs.Outcome.{Outcome, done, outcome, limited}
-use Rattle.frs_layout.specs.Event.{Stamp, PatternUnit, Value, Module, empty, block, Event}
-use Rattle.frs_layout.specs.Layout.{longword, halves, datumBits, valueWord, rows, countChecks, scalerChecks, geoChecks, valueChecks, counterChecks, channels, geos, smallestEvent, largestEvent}
+use Rattle.event.specs.Outcome.{Outcome, done, outcome, inRoom}
+use Rattle.frs_layout.specs.Event.{Stamp, PatternUnit, Value, Module, empty, withData, Event, scalerGeo, patternGeo, stampIdentifier, word1Identifier, word2Identifier, word3Identifier, scalerEnd, patternHeader, registerIdentifier, multiplicityIdentifier, patternEnd}
+use Rattle.frs_layout.specs.Layout.{halves, headerWord, footerWord, emptyWord, datumBits, valueWord, rows, countChecks, scalerChecks, geoChecks, valueChecks, counterChecks, channels, geos, smallestEvent, largestEvent}
 
 -- the upper half given, over 16 data bits
-abbrev pub under : (upper : ℕ) → Parser ℕ ℕ
-under upper = layout 10 (_% 2 ^ 16) (halves upper) (belowChecks 10 (2 ^ 16))
+abbrev pub dataUnder : (upper : ℕ) → Parser ℕ ℕ
+dataUnder upper = layout 10 (_% 2 ^ 16) (halves upper) (belowChecks 10 (2 ^ 16))
 
 abbrev pub stamp : Parser ℕ Stamp
 stamp = do
-  exactly 10 0x00000200
-  a ← under 0x00f7
-  b ← under 0x01f7
-  c ← under 0x02f7
+  exactly 10 stampIdentifier
+  a ← dataUnder word1Identifier
+  b ← dataUnder word2Identifier
+  c ← dataUnder word3Identifier
   give (record { word1 = a; word2 = b; word3 = c })
 
 -- A block at place p with a count of n: that many longwords, then its footer. 5 unless they are there.
@@ -39,51 +39,51 @@ scalerValues = several scalerValue ended
 
 abbrev pub scalerFooter : List ℕ → Parser ℕ (List ℕ)
 scalerFooter vs = do
-  exactly 9 0x34000000
+  exactly 9 scalerEnd
   give vs
 
 abbrev pub scaler : Parser ℕ (List ℕ)
 scaler = do
   p ← here
-  n ← layout 6 (_% 2 ^ 6) (longword 6 2) (countChecks 6)
+  n ← layout 6 (_% 2 ^ 6) (headerWord scalerGeo) (countChecks 6)
   blockOf p n scalerValues scalerFooter
 
 abbrev pub patternBody : Parser ℕ PatternUnit
 patternBody = do
-  r ← under 0x2800
-  m ← under 0x2801
-  exactly 9 0x2c000000
+  r ← dataUnder registerIdentifier
+  m ← dataUnder multiplicityIdentifier
+  exactly 9 patternEnd
   give (record { register = r; multiplicity = m })
 
 abbrev pub patternUnit : Parser ℕ PatternUnit
 patternUnit = do
   p ← here
-  exactly 6 0x2a000002
+  exactly 6 patternHeader
   within 5 p 3 patternBody
 
--- a longword with GEO 5 right after the scaler is judged as a pattern unit
+-- a longword with the pattern unit's GEO, 5, right after the scaler is judged as a pattern unit
 abbrev pub atPattern : List ℕ → Bool
 atPattern [] = false
-atPattern (w ∷ r) = eqb (w / 2 ^ 27) 5
+atPattern (w ∷ r) = eqb (w / 2 ^ 27) patternGeo
 
 -- a module's first longword: 6 its layout, its count and its GEO, then 11 its GEO seen
 pub data Header : Type 0 where
-  bare : (geo : ℕ) → Header
-  full : (geo count : ℕ) → Header
+  emptyHeader : (geo : ℕ) → Header
+  dataHeader : (geo count : ℕ) → Header
 
-abbrev pub headerWord : Header → ℕ
-headerWord (bare g) = longword g 6 0
-headerWord (full g n) = longword g 2 n
+abbrev pub firstWord : Header → ℕ
+firstWord (emptyHeader g) = emptyWord g
+firstWord (dataHeader g n) = headerWord g n
 
 abbrev pub headerOf : ℕ → Header
-headerOf w = cond (eqb (w / 2 ^ 24 % 2 ^ 3) 6) (bare (w / 2 ^ 27)) (full (w / 2 ^ 27) (w % 2 ^ 6))
+headerOf w = cond (eqb (w / 2 ^ 24 % 2 ^ 3) 6) (emptyHeader (w / 2 ^ 27)) (dataHeader (w / 2 ^ 27) (w % 2 ^ 6))
 
 abbrev pub headerChecks : List ℕ → Header → List Test
-headerChecks seen (bare g) = geoChecks 6 11 seen g
-headerChecks seen (full g n) = countChecks 6 n ++ geoChecks 6 11 seen g
+headerChecks seen (emptyHeader g) = geoChecks 6 11 seen g
+headerChecks seen (dataHeader g n) = countChecks 6 n ++ geoChecks 6 11 seen g
 
 abbrev pub header : List ℕ → Parser ℕ Header
-header seen = layout 6 headerOf headerWord (headerChecks seen)
+header seen = layout 6 headerOf firstWord (headerChecks seen)
 
 -- a data longword of the module with GEO g: 10 its layout, 11 a channel seen
 abbrev pub valueOf : ℕ → Value
@@ -97,13 +97,13 @@ values g = many (value g) channels ended []
 
 abbrev pub footer : (g : ℕ) → List Value → Parser ℕ Module
 footer g vs = do
-  c ← layout 9 (_% 2 ^ 16) (longword g 4) (counterChecks 9)
-  give (block g vs c)
+  c ← layout 9 (_% 2 ^ 16) (footerWord g) (counterChecks 9)
+  give (withData g vs c)
 
 -- the longwords after the header of the module at place p
 abbrev pub body : (p : ℕ) → Header → Parser ℕ Module
-body p (bare g) = give (empty g)
-body p (full g n) = blockOf p n (values g) (footer g)
+body p (emptyHeader g) = give (empty g)
+body p (dataHeader g n) = blockOf p n (values g) (footer g)
 
 abbrev pub oneModule : List ℕ → Parser ℕ Module
 oneModule seen = do
@@ -135,9 +135,9 @@ reading ws = outcome (λ e. done (rows e)) (eventParser (length ws) 0 ws)
 
 -- into room for so many rows: 12 last
 abbrev pub readingInto : (room : ℕ) → List ℕ → Outcome Row
-readingInto room ws = limited 12 room (reading ws)
+readingInto room ws = inRoom room (reading ws)
 
--- where the next event of a run may begin
+-- where the next event of a run may begin, or the run ends
 abbrev pub atStamp : List ℕ → Bool
 atStamp [] = true
-atStamp (w ∷ r) = eqb w 0x00000200
+atStamp (w ∷ r) = eqb w stampIdentifier

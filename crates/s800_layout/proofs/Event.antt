@@ -91,16 +91,16 @@ run-rows (plain q r) = ap (packetRows q ++_) (run-rows r)
 
 -- the stop holds at the end, or where another packet's own row stands, and at no packet of the event
 codes-rows : (o : StampOrder) (stop : List Row → Bool) → ((r : List Row) → T (stop r) → T (Writing.atPacket r))
-    → ((q : Packet) → ValidPacket q → (r : List Row) → stop (packetRows q ++ r) ≡ false) → stop [] ≡ true → Codes (At stop) (Writing.eventRowsParser o stop) (rows o) Formed
+    → ((q : Packet) → ValidPacket q → (r : List Row) → stop (packetRows q ++ r) ≡ false) → stop [] ≡ true → Codes (At stop) (Writing.eventRowsUpTo o stop) (rows o) Formed
 codes-rows o stop last on halt = same
     (codes-event (Rows.codes-stamp o) Rows.codes-number (codes-runUpTo stop runRows Rows.codes-packet (λ q g r. tt) last on halt run-rows))
     (λ e g. g) (λ e g. g) (λ e g. refl)
 
 -- one event alone
-pub codes-one : (o : StampOrder) → Codes (At ended) (Writing.eventRowsParser o ended) (rows o) Formed
+pub codes-one : (o : StampOrder) → Codes (At ended) (Writing.eventRowsUpTo o ended) (rows o) Formed
 codes-one o = codes-rows o ended (λ r t. rw (nil r t) tt) (λ q g r. refl) refl
 
-pub ends-one : (o : StampOrder) → Ends ended (Writing.eventRowsParser o ended)
+pub ends-one : (o : StampOrder) → Ends ended (Writing.eventRowsUpTo o ended)
 ends-one o = ends-event (Writing.stampPacket o) Writing.numberPacket Writing.packet ended
 
 not-stamp : (f : Form) → eqb stampTag (tag f) ≡ false
@@ -120,7 +120,7 @@ not-stamp (opaque intermediatePpac) = refl
 not-stamp (opaque objectScintillator) = refl
 
 -- one event in a run of events
-pub codes-run : (o : StampOrder) → Codes (At Writing.atStamp) (Writing.eventRowsParser o Writing.atStamp) (rows o) Formed
+pub codes-run : (o : StampOrder) → Codes (At Writing.atStamp) (Writing.eventRowsUpTo o Writing.atStamp) (rows o) Formed
 codes-run o = codes-rows o Writing.atStamp last (λ q g r. not-stamp (q .form)) refl
   where
     last : (r : List Row) → T (Writing.atStamp r) → T (Writing.atPacket r)

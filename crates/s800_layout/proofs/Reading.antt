@@ -16,16 +16,13 @@ use Rattle.s800_layout.specs.Layout.{version, packetsWords, words, rows,
 use Rattle.s800_layout.specs.Reading.{reading, readingInto}
 use Rattle.s800_layout.proofs.Event.{codes-words, ends-words}
 
-abbrev pub SEvent : StampOrder → List ℕ → List Row → Type 0
-SEvent o = SomeEvent Valid words (rows o)
-
 -- the length word is the number of words
 counted : (n : ℕ) (e : Event) → n ≡ length (words e) → n ∷ eventTag ∷ version ∷ packetsWords e ≡ words e
 counted n e h = let k : n ≡ 2 + suc (length (packetsWords e)) = omega (arith, h) in ap (λ (m : ℕ). m ∷ eventTag ∷ version ∷ packetsWords e) k
 
-pub reading-iff : (o : StampOrder) (ws : List ℕ) (rs : List Row) → (reading o ws ≡ done rs) ↔ SEvent o ws rs
+pub reading-iff : (o : StampOrder) (ws : List ℕ) (rs : List Row) → (reading o ws ≡ done rs) ↔ SomeEvent Valid words (rows o) ws rs
 reading-iff o = reads Formed words (rows o) largestEvent smallestEvent codes-words ends-words (λ n e. refl) counted (λ e g. omega arith)
 
 -- Demand 2 for a reading: accepted exactly when some valid event has these words, and there is room for its rows, which are the rows given.
-pub reading-in-room : (room : ℕ) (o : StampOrder) (ws : List ℕ) (rs : List Row) → (readingInto room o ws ≡ done rs) ↔ (SEvent o ws rs × (length rs ≤ room))
+pub reading-in-room : (room : ℕ) (o : StampOrder) (ws : List ℕ) (rs : List Row) → (readingInto room o ws ≡ done rs) ↔ (SomeEvent Valid words (rows o) ws rs × (length rs ≤ room))
 reading-in-room room o ws rs = in-room 12 room (reading-iff o ws rs)

@@ -8,6 +8,7 @@ use mathlib.Core.List.{List, [], _∷_, map}
 use lib.Dec.{T, ltb, eqb, ltb→lt, lt→ltb, leb→le}
 use borrow.Author.Tests.{eqb-true}
 use Rattle.event.specs.Parser.{Passed, All, member, alone}
+use Rattle.event.specs.Demands.{InWidth}
 use Rattle.event.proofs.Elements.{all-goods}
 use Rattle.event.proofs.Width.{Narrow, Fit, known, word, joined, wholes, items, item-words}
 use Rattle.s800_layout.specs.Event.{Datum, Pair, Sample, energies, hits, Opaque, focalPlaneTime, intermediateCrdc, targetPin, intermediateTrack, intermediatePpac, objectScintillator, Form, trigger, timeOfFlight, scintillator, ionChamber, crdc, hodoscope, objectPin, vmeAdc, opaque, Content, Run, end, plain, Event, eventTag, stampTag, numberTag, energiesTag, samplesTag, anodeTag, tag, ChannelFormat, triggerTime, flightTime, pairEnergy, energy16, adcEnergy}
@@ -74,7 +75,7 @@ run-fits : (r : Run) → ValidRun r → Fit 16 (runWords r)
 run-fits end v = known [] tt
 run-fits (plain q r) v = joined (packet-fits (q .form) (q .content) (v .0)) (run-fits r (v .1))
 
-pub words-fit : (e : Event) → Valid e → All (λ w. T (ltb w (2 ^ 16))) (words e)
+pub words-fit : (e : Event) → Valid e → InWidth 16 (words e)
 words-fit e v =
     let stamp = frame stampTag tt (known (stampWords (e .stamp)) (v .formed .stamp)) in
     let number = frame numberTag tt (known (numberWords (e .number)) (v .formed .number)) in

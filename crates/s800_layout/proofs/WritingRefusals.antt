@@ -16,7 +16,7 @@ use Rattle.event.proofs.Refusals.{either, keeps-give, keeps-left, keeps-bind, k
 use Rattle.event.proofs.WritingRefusals.{Writes, Takes, takes-row, writes-many, writing-refused}
 use Rattle.s800_layout.specs.Event.{Form, trigger, timeOfFlight, scintillator, ionChamber, crdc, hodoscope, objectPin, vmeAdc, opaque, hitsId, ChannelFormat, triggerTime, flightTime, energy16, adcEnergy}
 use Rattle.s800_layout.specs.Layout.{words, largestEvent, channels, pairChannels}
-use Rattle.s800_layout.specs.Writing.{atPacket, datumBelow, datum, channelRows, pair, sample, samples, content, packet, stampPacket, numberPacket, eventRowsParser, writing}
+use Rattle.s800_layout.specs.Writing.{atPacket, datumBelow, datum, channelRows, pair, sample, samples, content, packet, stampPacket, numberPacket, eventRowsUpTo, writing}
 
 module _ {count : ℕ} where
   writes-channels : (kind base : ℕ) (f : ChannelFormat) (s : List Row) → Writes count s (channelRows kind base f)
@@ -50,7 +50,7 @@ module _ {count : ℕ} where
   takes-number : (s : List Row) → Takes count s numberPacket
   takes-number s = keeps-next (omega arith) λ u r e. keeps-left (takes-row (omega arith)) (λ r₁ l. omega arith)
 
-  writes-event : (o : StampOrder) (s : List Row) → Writes count s (eventRowsParser o ended)
+  writes-event : (o : StampOrder) (s : List Row) → Writes count s (eventRowsUpTo o ended)
   writes-event o s = keeps-bind (takes-stamp o s) λ st r l. keeps-bind (takes-number r) λ k r₁ l₁. keeps-left
       (keeps-map _ (keeps-map _ (writes-many (λ u. packet) alone ended tt (λ u s. takes-packet s) tt r₁)))
       (λ r₂ l₂. omega arith)

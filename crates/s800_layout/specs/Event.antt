@@ -151,11 +151,11 @@ tag (opaque objectScintillator) = 0x5890
 abbrev pub opaques : List Opaque
 opaques = focalPlaneTime ∷ intermediateCrdc ∷ targetPin ∷ intermediateTrack ∷ intermediatePpac ∷ objectScintillator ∷ []
 
-abbrev pub forms : List Form
+abbrev forms : List Form
 forms = trigger ∷ timeOfFlight ∷ scintillator ∷ ionChamber ∷ crdc ∷ hodoscope ∷ objectPin ∷ vmeAdc ∷ map opaque opaques
 
 -- the form of a tag; where no form has it, one whose own tag is another
-abbrev pub lookUp : List Form → ℕ → Form
+abbrev lookUp : List Form → ℕ → Form
 lookUp [] t = trigger
 lookUp (f ∷ fs) t = cond (eqb t (tag f)) f (lookUp fs t)
 
@@ -200,7 +200,7 @@ pub record ChannelFormat : Type 0 where
   pub allowed : List ℕ
 
 -- n numbers from a on
-abbrev pub from : ℕ → ℕ → List ℕ
+abbrev from : ℕ → ℕ → List ℕ
 from a zero = []
 from a (suc n) = a ∷ from (suc a) n
 

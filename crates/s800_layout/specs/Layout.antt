@@ -1,6 +1,6 @@
 -- Dialect S: the words and the rows of an event, and the rules that a valid one keeps (document 01).
 -- Assumes nothing.
-use Prim.Native.Nat.{ℕ, _+_, _*_, _^_}
+use Prim.Native.Nat.{ℕ, _+_, _*_, _/_, _%_, _^_}
 use mathlib.Core.List.{List, [], _∷_, _++_, map}
 use lib.Dec.{T, ltb, leb}
 use lib.ListN.{length}
@@ -88,13 +88,17 @@ words e = framed eventTag (version ∷ packetsWords e)
 -- Rows.
 
 -- two 16-bit chunks as one 32-bit number
-abbrev pub chunks32 : ℕ → ℕ → ℕ
+abbrev chunks32 : ℕ → ℕ → ℕ
 chunks32 high low = high * 2 ^ 16 + low
 
 -- the chunks lowest first. Crossed, they stand as bits 15-0, 47-32, 31-16, 63-48. (Its own inverse.)
 abbrev pub lowestFirst : StampOrder → Stamp → Stamp
 lowestFirst Crossed s = record { chunk0 = s .chunk0; chunk1 = s .chunk2; chunk2 = s .chunk1; chunk3 = s .chunk3 }
 lowestFirst Rising s = s
+
+-- a packet's own row
+abbrev pub packetRow : (tag id : ℕ) → Row
+packetRow t id = row 1 t id 0
 
 abbrev pub stampRow : StampOrder → Stamp → Row
 stampRow o s = row 2 0 (chunks32 (lowestFirst o s .chunk3) (lowestFirst o s .chunk2)) (chunks32 (lowestFirst o s .chunk1) (lowestFirst o s .chunk0))
@@ -106,20 +110,34 @@ numberRow k = row 3 0 (k .chunk2) (chunks32 (k .chunk1) (k .chunk0))
 abbrev pub datumRow : ℕ → ℕ → Datum → Row
 datumRow kind base d = row kind 0 (base + d .channel) (d .value)
 
+-- of a hodoscope's energies, and of a VME ADC's
+abbrev pub hodoscopeBase : (id : ℕ) → ℕ
+hodoscopeBase id = 16 * id
+
+abbrev pub adcBase : (id : ℕ) → ℕ
+adcBase id = 8 * id
+
 abbrev pub pairRows : Pair → List Row
 pairRows x = datumRow 6 0 (x .energy) ∷ row 5 0 (x .energy .channel) (x .time) ∷ []
 
 abbrev pub pad : (channel connector : ℕ) → ℕ
 pad channel connector = channel + 64 * connector
 
+-- the channel and the connector of a pad
+abbrev pub padChannel : ℕ → ℕ
+padChannel p = p % 64
+
+abbrev pub padConnector : ℕ → ℕ
+padConnector p = p / 64
+
 abbrev pub sampleRow : Sample → Row
 sampleRow s = row 8 (s .head .sample) (pad (s .head .channel) (s .datum .connector)) (s .datum .energy)
 
-abbrev pub registerRow : Registers → Row
-registerRow h = row 10 (h .a) (h .b) (h .time)
-
 abbrev pub anodeRow : Anode → Row
 anodeRow a = row 9 0 (a .energy) (a .time)
+
+abbrev pub registerRow : Registers → Row
+registerRow h = row 10 (h .a) (h .b) (h .time)
 
 abbrev pub contentRows : (f : Form) → Content f → List Row
 contentRows trigger c = row 4 0 0 (c .pattern) ∷ map (datumRow 5 0) (c .times)
@@ -127,21 +145,21 @@ contentRows timeOfFlight xs = map (datumRow 5 0) xs
 contentRows scintillator xs = each pairRows xs
 contentRows ionChamber xs = map (datumRow 6 0) xs
 contentRows crdc c = row 7 0 0 (c .samples .threshold) ∷ (map sampleRow (c .samples .samples) ++ (anodeRow (c .anode) ∷ []))
-contentRows hodoscope (energies id xs) = map (datumRow 6 (16 * id)) xs
+contentRows hodoscope (energies id xs) = map (datumRow 6 (hodoscopeBase id)) xs
 contentRows hodoscope (hits h) = registerRow h ∷ []
 contentRows objectPin d = datumRow 6 0 d ∷ []
-contentRows vmeAdc c = map (datumRow 6 (8 * c .id)) (c .energies)
+contentRows vmeAdc c = map (datumRow 6 (adcBase (c .id))) (c .energies)
 contentRows (opaque k) ws = map (row 11 0 0) ws
 
 abbrev pub packetRows : Packet → List Row
-packetRows q = row 1 (tag (q .form)) (idOf (q .form) (q .content)) 0 ∷ contentRows (q .form) (q .content)
+packetRows q = packetRow (tag (q .form)) (idOf (q .form) (q .content)) ∷ contentRows (q .form) (q .content)
 
 abbrev pub runRows : Run → List Row
 runRows end = []
 runRows (plain q r) = packetRows q ++ runRows r
 
 abbrev pub rows : StampOrder → Event → List Row
-rows o e = row 1 stampTag 0 0 ∷ stampRow o (e .stamp) ∷ row 1 numberTag 0 0 ∷ numberRow (e .number) ∷ runRows (e .run)
+rows o e = packetRow stampTag 0 ∷ stampRow o (e .stamp) ∷ packetRow numberTag 0 ∷ numberRow (e .number) ∷ runRows (e .run)
 
 -- Rules. `n` is the refusal number of a field out of range, `m` that of a repeated channel.
 

@@ -2,7 +2,7 @@
 -- (A row's parser has its kind, its fields and their rules; `rowWith` has the numbers: 21 for a row that may not stand there and for rows that end, 22 for
 -- its fields. Some tests never fail on 32-bit fields, and stand here because the same tables serve `Valid`: that a stamp's chunk is below 2 ^ 16, a pad's channel below 2 ^ 6.)
 -- Assumes nothing.
-use Prim.Native.Nat.{ℕ, _-_, _*_, _/_, _%_, _^_}
+use Prim.Native.Nat.{ℕ, _-_, _/_, _%_, _^_}
 use mathlib.Core.Bool.{Bool, true, cond, _&&_}
 use mathlib.Core.List.{List, [], _∷_}
 use lib.Dec.{eqb}
@@ -11,10 +11,10 @@ use Rattle.event.specs.declared.StampOrder.{StampOrder}
 use Rattle.event.specs.Parser.{Parser, ended, _>>=_, _>>_, give, many, several}
 use Rattle.event.specs.Words.{belowChecks}
 use Rattle.event.specs.Rows.{row}
-use Rattle.event.specs.Outcome.{Outcome, done, outcome, limited}
-use Rattle.event.specs.Writing.{rowWith, ofKind, atKind, fromElements}
+use Rattle.event.specs.Outcome.{Outcome}
+use Rattle.event.specs.Writing.{rowWith, ofKind, atKind, writingBy}
 use Rattle.s800_layout.specs.Event.{Datum, Pair, Sample, Samples, Anode, Registers, Hodoscope, energies, hits, Form, trigger, timeOfFlight, scintillator, ionChamber, crdc, hodoscope, objectPin, vmeAdc, opaque, Content, Packet, Stamp, Number, Event, stampTag, numberTag, tag, formOf, hitsId, patternBound, ChannelFormat, triggerTime, flightTime, pairEnergy, energy16, adcEnergy}
-use Rattle.s800_layout.specs.Layout.{words, lowestFirst, stampRow, numberRow, datumRow, sampleRow, registerRow, anodeRow, largestEvent, stampChecks, numberChecks, idChecks, datumChecks, sampleChecks, anodeChecks, registerChecks, channels, pairChannels}
+use Rattle.s800_layout.specs.Layout.{words, lowestFirst, packetRow, stampRow, numberRow, datumRow, hodoscopeBase, adcBase, padChannel, padConnector, sampleRow, registerRow, anodeRow, largestEvent, stampChecks, numberChecks, idChecks, datumChecks, sampleChecks, anodeChecks, registerChecks, channels, pairChannels}
 use Rattle.s800_layout.specs.Reading.{runUpTo, eventOf}
 
 -- a packet's own row, of kind 1, with the tag t
@@ -51,11 +51,11 @@ pair seen = do
   t ← datumBelow 5 (e .channel) (2 ^ pairEnergy .bits)
   give (record { energy = e; time = t })
 
--- the pad taken apart: channel + 64 × connector
+-- the pad taken apart
 abbrev pub sampleOf : Row → Sample
 sampleOf r = record {
-  head = record { sample = r .unit; channel = r .channel % 64 };
-  datum = record { connector = r .channel / 64; energy = r .datum };
+  head = record { sample = r .unit; channel = padChannel (r .channel) };
+  datum = record { connector = padConnector (r .channel); energy = r .datum };
 }
 
 abbrev pub sample : Parser Row Sample
@@ -81,7 +81,7 @@ hitsContent = do
 
 abbrev pub energiesContent : ℕ → Parser Row Hodoscope
 energiesContent id = do
-  xs ← channelRows 6 (16 * id) energy16
+  xs ← channelRows 6 (hodoscopeBase id) energy16
   give (energies id xs)
 
 -- The rows after a packet's own row, of the form and the id that it says.
@@ -100,7 +100,7 @@ content crdc id = do
 content hodoscope id = cond (eqb id hitsId) hitsContent (energiesContent id)
 content objectPin id = datum 6 0 energy16 []
 content vmeAdc id = do
-  xs ← channelRows 6 (8 * id) adcEnergy
+  xs ← channelRows 6 (adcBase id) adcEnergy
   give (record { id = id; energies = xs })
 content (opaque k) id = several (datumBelow 11 0 (2 ^ 16)) atPacket
 
@@ -113,9 +113,9 @@ abbrev pub headerOf : Row → Header
 headerOf r = record { form = formOf (r .unit); id = r .channel }
 
 abbrev pub headerRow : Header → Row
-headerRow h = row 1 (tag (h .form)) (h .id) 0
+headerRow h = packetRow (tag (h .form)) (h .id)
 
--- 21: its tag is not that of its form; so 0x5803 and 0x5804 never come again. 22: its id
+-- 21: its kind is not 1, or its tag not that of its form; so 0x5803 and 0x5804 never come again. 22: its id, or its datum, which is 0
 abbrev pub header : Parser Row Header
 header = rowWith (λ r. ofTag (tag (formOf (r .unit))) r) headerOf headerRow (λ h. idChecks 22 (h .form) (h .id))
 
@@ -127,13 +127,13 @@ packet = do
 
 -- the first packet and the second: the own row, then one row more
 abbrev pub ownRow : ℕ → Parser Row (Unit {0})
-ownRow t = rowWith (ofTag t) (λ r. tt) (λ u. row 1 t 0 0) (λ u. [])
+ownRow t = rowWith (ofTag t) (λ r. tt) (λ u. packetRow t 0) (λ u. [])
 
 -- the chunks lowest first
 abbrev pub chunksOf : Row → Stamp
 chunksOf r = record { chunk0 = r .datum % 2 ^ 16; chunk1 = r .datum / 2 ^ 16; chunk2 = r .channel % 2 ^ 16; chunk3 = r .channel / 2 ^ 16 }
 
--- and in word order
+-- and in word order (`lowestFirst` is its own inverse)
 abbrev pub stampOf : StampOrder → Row → Stamp
 stampOf o r = lowestFirst o (chunksOf r)
 
@@ -147,13 +147,8 @@ abbrev pub numberPacket : Parser Row Number
 numberPacket = ownRow numberTag >> rowWith (ofKind 3) numberOf numberRow (numberChecks 22)
 
 -- an event's rows up to `stop`: `ended` for one event alone, `atStamp` for one in a run
-abbrev pub eventRowsParser : StampOrder → (List Row → Bool) → Parser Row Event
-eventRowsParser o stop = eventOf (stampPacket o) numberPacket (runUpTo stop packet)
+abbrev pub eventRowsUpTo : StampOrder → (List Row → Bool) → Parser Row Event
+eventRowsUpTo o stop = eventOf (stampPacket o) numberPacket (runUpTo stop packet)
 
--- 21 and 22 row by row, then 23
-abbrev pub writingRows : StampOrder → List Row → Outcome ℕ
-writingRows o rs = limited 23 largestEvent (outcome (λ e. done (words e)) (eventRowsParser o ended 0 rs))
-
--- 20 first
 abbrev pub writing : StampOrder → List ℕ → Outcome ℕ
-writing o = fromElements (writingRows o)
+writing o = writingBy words largestEvent (eventRowsUpTo o ended)
