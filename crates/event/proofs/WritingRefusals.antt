@@ -1,6 +1,6 @@
 -- The refusals of a writing, over any dialect: each number with its place, once it is shown that the rows are refused by 21 and 22 only.
 -- Assumes nothing.
-use Prim.Native.Nat.{ℕ, suc, _/_, _%_, _≤_, _<_}
+use Prim.Native.Nat.{ℕ, _+_, _/_, _%_, _≤_, _<_}
 use native.Mathlib.Omega.{arith}
 use mathlib.Core.Path.{_≡_, refl}
 use mathlib.Core.Logic.{inl, inr, ⊎-elim}
@@ -8,6 +8,7 @@ use mathlib.Core.Bool.{Bool, true, false, cond}
 use mathlib.Core.List.{List, [], _∷_}
 use lib.Dec.{T, eqb}
 use lib.ListN.{length}
+use borrow.Author.Tests.{eqb-true, eqb-false}
 use Rattle.event.specs.declared.Row.{Row}
 use Rattle.event.specs.Parser.{Parser, Test, element, times, many}
 use Rattle.event.specs.Words.{between}
@@ -21,14 +22,18 @@ use Rattle.event.proofs.Whole.{limited-refused}
 abbrev ofRow : ℕ → Bool
 ofRow = between 21 22
 
+-- a row that is missing is refused at the row count, by 21
+abbrev past : ℕ → ℕ
+past n = cond (eqb n 21) 1 0
+
 -- a parser of rows, in a writing of `count` rows; what it leaves is no longer than what it found, or shorter
 abbrev pub Writes : {A : Type 0} → ℕ → List Row → Parser Row A → Type 0
-Writes count s p = Keeps ofRow (suc count) 1 s p (λ r. length r ≤ length s)
+Writes count s p = Keeps ofRow count past s p (λ r. length r ≤ length s)
 
 abbrev pub Takes : {A : Type 0} → ℕ → List Row → Parser Row A → Type 0
-Takes count s p = Keeps ofRow (suc count) 1 s p (λ r. length r < length s)
+Takes count s p = Keeps ofRow count past s p (λ r. length r < length s)
 
-pub takes-row : {A : Type 0} {count n : ℕ} {fields : Row → A} {tests : Row → List Test} {s : List Row} → There ofRow 1 n tests s → Takes count s (element n fields tests)
+pub takes-row : {A : Type 0} {count n : ℕ} {fields : Row → A} {tests : Row → List Test} {s : List Row} → There ofRow past n tests s → Takes count s (element n fields tests)
 takes-row c = keeps-left (keeps-element c) (λ r e. omega arith)
 
 pub writes-many : {St A : Type 0} {count : ℕ} (item : St → Parser Row A) (next : St → A → St) (stop : List Row → Bool) → T (stop [])
@@ -49,13 +54,17 @@ rows-counted (k ∷ u ∷ c ∷ []) = refl
 rows-counted (k ∷ u ∷ c ∷ d ∷ xs) = omega (arith, rows-counted xs)
 
 module _ {Event : Type 0} {p : Parser Row Event} (words : Event → List ℕ) (largest : ℕ) (c : (rs : List Row) → Writes (length rs) rs p) (xs : List ℕ) (n k : ℕ) where
+  -- 21 or 22, each at its places
+  placed : (b : Bool) → eqb n 21 ≡ b → T (ofRow n) → k < length (rowsIn xs) + cond b 1 0 → RefusedAt largest (length xs / 4) n k
+  placed true e t l = inr (inl (eqb-true n 21 e, omega (arith, rows-counted xs)))
+  placed false e t l = inr (inr (inl (omega (arith, bounds 21 22 n t, eqb-false n 21 e), omega (arith, rows-counted xs))))
+
   of-rows : limited 23 largest (outcome (λ e. done (words e)) (p 0 (rowsIn xs))) ≡ refused n k → RefusedAt largest (length xs / 4) n k
   of-rows e = ⊎-elim
       (λ r.
       let h = keeps-outcome (c (rowsIn xs)) (omega arith) words n k r in
-      let t = bounds 21 22 n (h .0) in
-      inr (inl (t .0, t .1, omega (arith, rows-counted xs))))
-      (λ h. inr (inr h))
+      placed (eqb n 21) refl (h .0) (h .1))
+      (λ h. inr (inr (inr h)))
       (limited-refused 23 largest (outcome (λ e. done (words e)) (p 0 (rowsIn xs))) n k e)
 
   pub writing-refused : fromElements (λ rs. limited 23 largest (outcome (λ e. done (words e)) (p 0 rs))) xs ≡ refused n k → RefusedAt largest (length xs / 4) n k

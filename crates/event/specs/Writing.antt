@@ -43,6 +43,6 @@ fromElements writingRows xs = cond (eqb (length xs % 4) 0) (writingRows (rowsIn 
 abbrev pub writingBy : {Event : Type 0} → (Event → List ℕ) → (largest : ℕ) → Parser Row Event → List ℕ → Outcome ℕ
 writingBy words largest parser = fromElements (λ rs. limited 23 largest (outcome (λ e. done (words e)) (parser 0 rs)))
 
--- Refusal n at place k of a writing of `count` rows: 20 at 0; 21 or 22 at a row or where they end; 23 with more words than the largest event has.
+-- Refusal n at place k of a writing of `count` rows: 20 at 0; 21 at a row or where they end; 22 at a row; 23 with more words than the largest event has.
 abbrev pub RefusedAt : (largest count n k : ℕ) → Type 0
-RefusedAt largest count n k = ((n ≡ 20) × (k ≡ 0)) ⊎ (((21 ≤ n) × (n ≤ 22) × (k ≤ count)) ⊎ ((n ≡ 23) × (largest < k)))
+RefusedAt largest count n k = ((n ≡ 20) × (k ≡ 0)) ⊎ (((n ≡ 21) × (k ≤ count)) ⊎ (((n ≡ 22) × (k < count)) ⊎ ((n ≡ 23) × (largest < k))))

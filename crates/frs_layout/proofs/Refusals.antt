@@ -32,7 +32,7 @@ there (w ∷ s) t = omega arith
 -- Every place is before `bound`. A block that fits finds all its longwords, and they fill it: so there is no refusal past the longwords, and none by 0.
 module _ (bound : ℕ) where
   abbrev Reads : {A : Type 0} → List ℕ → Parser ℕ A → (List ℕ → Type 0) → Type 0
-  Reads s p Left = Keeps ofReading bound 0 s p Left
+  Reads s p Left = Keeps ofReading bound (λ n. 0) s p Left
 
   -- and no longword is left
   abbrev Fills : {A : Type 0} → List ℕ → Parser ℕ A → Type 0

@@ -23,7 +23,7 @@ use Rattle.s800_layout.specs.Reading.{even, allowedLength, bodyOf, packe
 -- Every place is before `bound`. A content of an allowed length finds all its words and leaves none: so there is no refusal past the words, and none by 0.
 module _ (bound : ℕ) where
   abbrev Reads : {A : Type 0} → List ℕ → Parser ℕ A → (List ℕ → Type 0) → Type 0
-  Reads s p Left = Keeps (between 1 11) bound 0 s p Left
+  Reads s p Left = Keeps (between 1 11) bound (λ n. 0) s p Left
 
   -- and no word is left
   abbrev Fills : {A : Type 0} → List ℕ → Parser ℕ A → Type 0

@@ -1,4 +1,4 @@
--- Every refusal of a writing of dialect S has a number of document 01, 20 to 23, and its place: 0; a row's index or the row count; more words than the largest event has.
+-- Every refusal of a writing of dialect S has a number of document 01, 20 to 23, and its place: 0; a row's index, or for 21 the row count; more words than the largest event has.
 -- Assumes nothing.
 use Prim.Native.Nat.{ℕ, _*_, _/_, _^_}
 use native.Mathlib.Omega.{arith}
