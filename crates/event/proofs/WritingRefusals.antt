@@ -13,7 +13,7 @@ use Rattle.event.specs.declared.Row.{Row}
 use Rattle.event.specs.Parser.{Parser, Test, element, times, many}
 use Rattle.event.specs.Words.{between}
 use Rattle.event.specs.Outcome.{done, refused, outcome, limited}
-use Rattle.event.specs.Writing.{rowsIn, fromElements, RefusedAt}
+use Rattle.event.specs.Writing.{rowsIn, writingBy, RefusedAt}
 use Rattle.event.proofs.Elements.{bounds}
 use Rattle.event.proofs.Refusals.{Keeps, There, keeps-left, keeps-element, keeps-times, keeps-many-at, keeps-outcome}
 use Rattle.event.proofs.Whole.{limited-refused}
@@ -67,7 +67,7 @@ module _ {Event : Type 0} {p : Parser Row Event} (words : Event → List ℕ) (l
       (λ h. inr (inr (inr h)))
       (limited-refused 23 largest (outcome (λ e. done (words e)) (p 0 (rowsIn xs))) n k e)
 
-  pub writing-refused : fromElements (λ rs. limited 23 largest (outcome (λ e. done (words e)) (p 0 rs))) xs ≡ refused n k → RefusedAt largest (length xs / 4) n k
+  pub writing-refused : writingBy words largest p xs ≡ refused n k → RefusedAt largest (length xs / 4) n k
   writing-refused = go (eqb (length xs % 4) 0)
     where
       go : (b : Bool) → cond b (limited 23 largest (outcome (λ e. done (words e)) (p 0 (rowsIn xs)))) (refused 20 0) ≡ refused n k → RefusedAt largest (length xs / 4) n k

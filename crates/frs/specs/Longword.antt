@@ -5,7 +5,7 @@ use mathlib.Core.Bool.{Bool, false, cond, _||_}
 use lib.Dec.{eqb}
 use Rattle.event.specs.Channels.{present}
 use Rattle.event.specs.Words.{between}
-use Rattle.frs_layout.specs.Layout.{longword, valueWord}
+use Rattle.frs_layout.specs.Layout.{footerWord, valueWord}
 use Rattle.frs_layout.specs.Reading.{valueOf}
 
 -- a module's header, its GEO apart: flag 6 over 0, or flag 2 over a count
@@ -22,4 +22,4 @@ valueFault geo seen w = cond (eqb w (valueWord geo (valueOf w))) (cond (present 
 
 -- 9: not a footer of that GEO; 0 for none
 unfoldable pub footerFault : (geo w : ℕ) → ℕ
-footerFault geo w = cond (eqb w (longword geo 4 (w % 2 ^ 16))) 0 9
+footerFault geo w = cond (eqb w (footerWord geo (w % 2 ^ 16))) 0 9

@@ -6,7 +6,7 @@ use mathlib.Core.List.{List, [], _∷_}
 use lib.Dec.{eqb, leb}
 use lib.ListN.{length, getD}
 use Rattle.event.specs.declared.Row.{Row}
-use Rattle.event.specs.Rows.{row}
+use Rattle.frs_layout.specs.Layout.{emptyRow, moduleRow}
 use Rattle.frs.specs.declared.Opened.{Opened}
 use Rattle.frs.specs.declared.Opened.the-variants.{Empty, Block, Refused}
 use Rattle.frs.specs.Longword.{headerFault}
@@ -23,8 +23,8 @@ openedOf ws at seen =
 
 -- the module's own row; its counter stands where the footer must
 abbrev pub rowsOpened : List ℕ → ℕ → Opened → List Row
-rowsOpened ws n (Empty geo) = row 20 geo 0 0 ∷ []
-rowsOpened ws n (Block geo end) = row 21 geo n (getD ws end 0 % 2 ^ 16) ∷ []
+rowsOpened ws n (Empty geo) = emptyRow geo ∷ []
+rowsOpened ws n (Block geo end) = moduleRow geo n (getD ws end 0 % 2 ^ 16) ∷ []
 rowsOpened ws n (Refused number) = []
 
 abbrev pub openedRows : (ws : List ℕ) (at seen : ℕ) → List Row
