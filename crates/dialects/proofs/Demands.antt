@@ -1,17 +1,15 @@
--- Demands 2 and 3, over every dialect and both stamp orders.
+-- Demands 2 and 3, as specs/Demands states them.
 -- Assumes nothing.
-use Prim.Native.Nat.{ℕ, suc, _+_, _≤_}
+use Prim.Native.Nat.{ℕ, suc, _+_}
 use native.Mathlib.Omega.{arith}
 use mathlib.Core.Path.{_≡_, refl, ap, sym, subst}
-use mathlib.Core.Logic.{_↔_}
 use mathlib.Core.List.{List, _∷_}
 use lib.ListN.{length}
 use Rattle.event.specs.declared.Row.{Row}
 use Rattle.event.specs.declared.StampOrder.{StampOrder}
-use Rattle.event.specs.Parser.{All}
 use Rattle.event.specs.Outcome.{done, given}
 use Rattle.event.specs.Rows.{flat}
-use Rattle.event.specs.Demands.{InWidth, join}
+use Rattle.event.specs.Demands.{InWidth}
 use Rattle.event.proofs.Join.{Separate, join-iff, by-length, by-parser}
 use Rattle.s800_layout.specs.Event.{eventTag}
 use Rattle.s800_layout.specs.Layout.{version, packetsWords}
@@ -27,32 +25,26 @@ use Rattle.frs_layout.proofs.Rows as RowsF
 use Rattle.frs_layout.proofs.Reading as ReadingF
 use Rattle.frs_layout.proofs.Writing as WritingF
 use Rattle.frs_layout.proofs.Width as WidthF
-use Rattle.dialects.specs.Dialects.{Dialect, S, F, Event, Valid, words, rows, width, reading, readingInto, writing, SomeEventIn, AcceptableIn, rowsOf}
+use Rattle.dialects.specs.Demands.{ReadingExact, ReadingInRoomExact, WritingExact, WrittenBack, ReadBack, AcceptableExact, RowsOfLayout, SameRuns}
+use Rattle.dialects.specs.Dialects.{Dialect, S, F, Event, Valid, words, rows, width, reading, AcceptableIn, rowsOf}
 
--- Demand 2. A reading accepts exactly the words of valid events, and gives the event's rows.
-pub reading-iff : (d : Dialect) (o : StampOrder) (ws : List ℕ) (rs : List Row) → (reading d o ws ≡ done rs) ↔ SomeEventIn d o ws rs
+pub reading-iff : ReadingExact
 reading-iff S o = ReadingS.reading-iff o
 reading-iff F o = ReadingF.reading-iff
 
--- The same into a buffer: exactly when there is also room for the rows.
-pub reading-in-room : (d : Dialect) (room : ℕ) (o : StampOrder) (ws : List ℕ) (rs : List Row)
-    → (readingInto d room o ws ≡ done rs) ↔ (SomeEventIn d o ws rs × (length rs ≤ room))
+pub reading-in-room : ReadingInRoomExact
 reading-in-room S room o = ReadingS.reading-in-room room o
 reading-in-room F room o = ReadingF.reading-in-room room
 
--- A writing accepts exactly the elements that are the rows of some valid event, and gives the event's words.
-pub writing-iff : (d : Dialect) (o : StampOrder) (xs ws : List ℕ) → (writing d o xs ≡ done ws) ↔ ((rs : List Row) × (flat rs ≡ xs) × SomeEventIn d o ws rs)
+pub writing-iff : WritingExact
 writing-iff S o = WritingS.writing-iff o
 writing-iff F o = WritingF.writing-iff
 
--- What is read is written back, and what is written is read back.
-pub written-back : (d : Dialect) (o : StampOrder) (ws : List ℕ) (rs : List Row) → reading d o ws ≡ done rs → writing d o (flat rs) ≡ done ws
+pub written-back : WrittenBack
 written-back d o ws rs e = writing-iff d o (flat rs) ws .1 (rs, refl, reading-iff d o ws rs .0 e)
 
-pub read-back : (d : Dialect) (o : StampOrder) (xs ws : List ℕ) → writing d o xs ≡ done ws → (rs : List Row) × (flat rs ≡ xs) × (reading d o ws ≡ done rs)
+pub read-back : ReadBack
 read-back d o xs ws e = let h = writing-iff d o xs ws .0 e in (h .0, h .1, reading-iff d o ws (h .0) .1 (h .2))
-
--- Demand 3.
 
 words-fit : (d : Dialect) (e : Event d) → Valid d e → InWidth (width d) (words d e)
 words-fit S = WidthS.words-fit
@@ -61,8 +53,7 @@ words-fit F = WidthF.words-fit
 accepted : (d : Dialect) (o : StampOrder) (ws : List ℕ) (a : AcceptableIn d ws) → reading d o ws ≡ done (rows d o (a .event))
 accepted d o ws a = reading-iff d o ws (rows d o (a .event)) .1 (record { event = a .event; valid = a .valid; itsWords = a .itsWords; itsRows = refl })
 
--- Acceptable is what a reading accepts, given room enough, in either order: that each word is in the width follows.
-pub acceptable-iff : (d : Dialect) (o : StampOrder) (ws : List ℕ) → AcceptableIn d ws ↔ ((rs : List Row) × (reading d o ws ≡ done rs))
+pub acceptable-iff : AcceptableExact
 acceptable-iff d o ws = (λ a. (rows d o (a .event), accepted d o ws a), from)
   where
     from : (rs : List Row) × (reading d o ws ≡ done rs) → AcceptableIn d ws
@@ -70,9 +61,7 @@ acceptable-iff d o ws = (λ a. (rows d o (a .event), accepted d o ws a), from)
         let v = reading-iff d o ws (h .0) .0 (h .1) in
         record { inWidth = subst (InWidth (width d)) (v .itsWords) (words-fit d (v .event) (v .valid)); event = v .event; valid = v .valid; itsWords = v .itsWords }
 
--- Its rows are the layout's, as a reading with room enough writes them.
-pub rows-of : (d : Dialect) (o : StampOrder) (ws : List ℕ) (a : AcceptableIn d ws)
-    → (rowsOf d o ws ≡ rows d o (a .event)) × ((room : ℕ) → length (rowsOf d o ws) ≤ room → readingInto d room o ws ≡ done (rowsOf d o ws))
+pub rows-of : RowsOfLayout
 rows-of d o ws a =
     let e : rowsOf d o ws ≡ rows d o (a .event) = ap given (accepted d o ws a) in
     (e, λ room l. reading-in-room d room o ws (rowsOf d o ws) .1 (record { event = a .event; valid = a .valid; itsWords = a .itsWords; itsRows = sym e }, l))
@@ -89,7 +78,5 @@ by-rows S o = by-parser atStampRowS (EventS.codes-run o) (AcceptableIn S) (rowsO
 by-rows F o = by-parser atStampRowF RowsF.codes-run (AcceptableIn F) (rowsOf F o) (words F)
     (λ ws a. (a .event, a .valid .formed, sym (rows-of F o ws a .0), a .itsWords)) tt (λ e s. tt) (λ e. omega arith)
 
--- Two lists of acceptable events, of which either may be empty, join to the same words exactly when they are the same list, and to the same rows exactly then.
-pub same-runs : (d : Dialect) (o : StampOrder) (es fs : List (List ℕ)) → All (AcceptableIn d) es → All (AcceptableIn d) fs
-    → ((join (λ ws. ws) es ≡ join (λ ws. ws) fs) ↔ (es ≡ fs)) × ((join (rowsOf d o) es ≡ join (rowsOf d o) fs) ↔ (es ≡ fs))
+pub same-runs : SameRuns
 same-runs d o es fs a b = (join-iff (by-words d) es fs a b, join-iff (by-rows d o) es fs a b)

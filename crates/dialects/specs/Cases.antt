@@ -1,13 +1,15 @@
 -- The twelve spoken cases of document 01: a single table.
 -- Assumes nothing.
 use Prim.Native.Nat.{ℕ}
-use mathlib.Core.List.{List, [], _∷_}
+use mathlib.Core.Path.{_≡_}
+use mathlib.Core.List.{List, [], _∷_, map}
+use lib.ListN.{length}
 use Rattle.event.specs.declared.Row.{Row}
 use Rattle.event.specs.declared.StampOrder.{StampOrder}
 use Rattle.event.specs.declared.StampOrder.the-variants.{Crossed, Rising}
 use Rattle.event.specs.Outcome.{Outcome, done, refused}
 use Rattle.event.specs.Rows.{row}
-use Rattle.dialects.specs.Dialects.{Dialect, S, F}
+use Rattle.dialects.specs.Dialects.{Dialect, S, F, reading}
 
 -- document 01 calls its first line M: here with its word 0, its word 3, and words added
 abbrev m : (word0 word3 : ℕ) → List ℕ → List ℕ
@@ -24,7 +26,7 @@ f more = 0x00000200 ∷ 0x00f717ff ∷ 0x01f738e1 ∷ 0x02f70563 ∷ 0x32000001 
 abbrev fRows : List Row → List Row
 fRows more = row 16 0x17ff 0x38e1 0x0563 ∷ row 17 6 1 0 ∷ row 18 6 0 42 ∷ more
 
-pub record Case : Type 0 where
+record Case : Type 0 where
   pub dialect : Dialect
   pub order : StampOrder
   pub words : List ℕ
@@ -33,7 +35,7 @@ pub record Case : Type 0 where
 abbrev case : Dialect → StampOrder → List ℕ → Outcome Row → Case
 case d o ws x = record { dialect = d; order = o; words = ws; outcome = x }
 
-abbrev pub cases : List Case
+abbrev cases : List Case
 cases =
     -- 1, 2: the stamp of M
     case S Crossed (m 0x000e 0x0006 []) (done (mRows 0 0x00011234 []))
@@ -55,3 +57,7 @@ cases =
     ∷ case F Crossed (f (0x6a000001 ∷ 0x68040061 ∷ 0x6c000005 ∷ [])) (done (fRows (row 21 13 1 5 ∷ row 22 13 4 97 ∷ [])))
     ∷ case F Crossed (f (0x46000000 ∷ 0x46000000 ∷ [])) (refused 11 8)
     ∷ []
+
+-- There are twelve, and each has its outcome.
+abbrev pub SpokenCases : Type 0
+SpokenCases = (length cases ≡ 12) × (map (λ c. reading (c .dialect) (c .order) (c .words)) cases ≡ map (λ c. c .outcome) cases)

@@ -9,7 +9,6 @@ use event::refusal;
 use event::rows::store_row;
 ghost use Prim.Native.Nat.{_+_, _≤_};
 ghost use mathlib.Core.Path.{_≡_};
-ghost use mathlib.Core.List.{[], _∷_};
 ghost use lib.ListN.{length, drop};
 ghost use lib.Seq.{slice};
 ghost use denote.Ref.{now};

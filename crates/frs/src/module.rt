@@ -10,7 +10,7 @@ use event::Row;
 use event::kind;
 use event::refusal;
 use event::rows::store_row;
-ghost use Prim.Native.Nat.{_<_, _≤_};
+ghost use Prim.Native.Nat.{_<_};
 ghost use mathlib.Core.Path.{_≡_};
 ghost use lib.ListN.{length};
 ghost use denote.Ref.{now};
