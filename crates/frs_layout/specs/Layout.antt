@@ -83,14 +83,14 @@ patternRow p = row 19 patternGeo (p .multiplicity) (p .register)
 abbrev pub patternRows : PatternUnit → List Row
 patternRows p = patternRow p ∷ []
 
-abbrev pub valueRow : (geo : ℕ) → Value → Row
-valueRow geo v = row 22 geo (v .channel) (v .datum)
-
 abbrev pub emptyRow : (geo : ℕ) → Row
 emptyRow geo = row 20 geo 0 0
 
 abbrev pub moduleRow : (geo count counter : ℕ) → Row
 moduleRow geo count counter = row 21 geo count counter
+
+abbrev pub valueRow : (geo : ℕ) → Value → Row
+valueRow geo v = row 22 geo (v .channel) (v .datum)
 
 -- row 21 before its values
 abbrev pub moduleRows : Module → List Row
