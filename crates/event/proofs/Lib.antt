@@ -18,4 +18,6 @@ pub mod RowCodes
 pub mod Trips
 pub mod ReadingRefusals
 pub mod WritingRefusals
+pub mod RowsIn
+pub mod WordStores
 pub mod Vectors

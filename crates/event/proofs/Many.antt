@@ -160,6 +160,11 @@ module _ {E St A : Type 0} {Rest : List E → Type 0} {item : St → Parser E A}
           go (refuse n k) h = refl
           go (ok a k t) h = rw (upTo-enough (length s) (length t) (next st a) k t (omega (arith, shorter st i (x ∷ s) a k t h)) (omega arith))
 
+-- nothing is taken at the stop
+pub many-stop : {E St A : Type 0} (item : St → Parser E A) (next : St → A → St) (stop : List E → Bool) (st : St) (i : ℕ) (s : List E) → stop s ≡ true → many item next stop st i s ≡ ok [] i s
+many-stop item next stop st i [] e = rw e
+many-stop item next stop st i (x ∷ s) e = rw e
+
 -- items after which anything may follow
 module _ {E St A : Type 0} {item : St → Parser E A} {print : St → A → List E} {Good : St → A → Type 0} (next : St → A → St)
     (c : (st : St) → Codes any (item st) (print st) (Good st)) where

@@ -1,38 +1,73 @@
--- What a scan leaves behind that stores rows one by one, each where the buffer has room. (The contracts of private functions
--- speak of it; no public one does.)
+-- What a scan leaves behind that stores its items one by one, rows (a reading) or words (a writing), each where the buffer has room. (The contracts of
+-- private functions speak of it; no public one does.)
 -- Assumes nothing.
-use Prim.Native.Nat.{ℕ, _+_}
+use Prim.Native.Nat.{ℕ, _+_, _*_}
 use mathlib.Core.Path.{_≡_}
 use mathlib.Core.List.{List, [], _∷_}
 use lib.ListN.{length}
 use Rattle.event.specs.declared.Answer.{Answer}
 use Rattle.event.specs.declared.Answer.the-variants as answer
+use Rattle.event.specs.declared.Part.{Part}
+use Rattle.event.specs.declared.Part.the-variants as part
 use Rattle.event.specs.declared.Row.{Row}
 use Rattle.event.specs.Parser.{Result, ok, refuse}
 use Rattle.event.specs.Rows.{storeRow}
+use Rattle.event.specs.Words.{storeWord}
 
--- rows stored from row k on
+-- items stored from place k on
+abbrev pub stores : {X : Type 0} → (List ℕ → ℕ → X → List ℕ) → List ℕ → ℕ → List X → List ℕ
+stores store buffer k [] = buffer
+stores store buffer k (x ∷ xs) = stores store (store buffer k x) (k + 1) xs
+
 abbrev pub storeRows : List ℕ → ℕ → List Row → List ℕ
-storeRows buffer k [] = buffer
-storeRows buffer k (r ∷ rs) = storeRows (storeRow buffer k r) (k + 1) rs
+storeRows = stores storeRow
 
-module _ {E A : Type 0} (rowsOf : A → List Row) where
-  -- the answer to what a parser gave, after k rows
-  abbrev answerAt : ℕ → Result E A → Answer
-  answerAt k (ok a j r) = answer.Accepted (k + length (rowsOf a))
-  answerAt k (refuse n p) = answer.Refused n p
+abbrev pub storeWords : (width : ℕ) → List ℕ → ℕ → List ℕ → List ℕ
+storeWords width = stores (storeWord width)
+
+-- How items are scanned: how one is stored; the most that may be stored by a place of the input, so that no count wraps; and what is answered: for the place
+-- after the input taken and the number of items, and for a refusal.
+pub record Scan (X R : Type 0) : Type 0 where
+  pub store : List ℕ → ℕ → X → List ℕ
+  pub most : ℕ → ℕ
+  pub accepted : (next count : ℕ) → R
+  pub refused : (number place : ℕ) → R
+
+-- reading: no more rows than words
+abbrev pub reading : Scan Row Answer
+reading = record { store = storeRow; most = λ i. i; accepted = λ next count. answer.Accepted count; refused = answer.Refused }
+
+-- writing, a part of an event and the whole: at most four words for a row
+abbrev pub writingPart : (width : ℕ) → Scan ℕ Part
+writingPart width = record { store = storeWord width; most = λ i. 4 * i; accepted = part.Done; refused = part.Refused }
+
+abbrev pub writingAll : (width : ℕ) → Scan ℕ Answer
+writingAll width = record { store = storeWord width; most = λ i. 4 * i; accepted = λ next count. answer.Accepted count; refused = answer.Refused }
+
+module _ {X R E A : Type 0} (scan : Scan X R) (itemsOf : A → List X) where
+  -- the answer to what a parser gave, after k items
+  abbrev answerAt : ℕ → Result E A → R
+  answerAt k (ok a j r) = scan .accepted j (k + length (itemsOf a))
+  answerAt k (refuse n p) = scan .refused n p
 
   -- the buffer after it; nothing is said of it on refusal
   abbrev Stored : ℕ → List ℕ → List ℕ → Result E A → Type 0
-  Stored k before after (ok a j r) = after ≡ storeRows before k (rowsOf a)
+  Stored k before after (ok a j r) = after ≡ stores (scan .store) before k (itemsOf a)
   Stored k before after (refuse n p) = Unit {0}
 
-  -- a scan of what a parser gave x for, after k rows in the buffer `before`
-  pub record Scanned (x : Result E A) (k : ℕ) (before : List ℕ) (result : Answer) (after : List ℕ) : Type 0 where
+  -- a scan of what a parser gave x for, after k items in the buffer `before`
+  pub record ScannedBy (x : Result E A) (k : ℕ) (before : List ℕ) (result : R) (after : List ℕ) : Type 0 where
     pub answered : result ≡ answerAt k x
     pub stored : Stored k before after x
 
 -- a scan of x from here on ends as a scan of x₀ from its beginning does
-pub record Leads {E A A₀ : Type 0} (rowsOf : A → List Row) (x : Result E A) (k : ℕ) (buffer : List ℕ)
-    (rowsOf₀ : A₀ → List Row) (x₀ : Result E A₀) (k₀ : ℕ) (buffer₀ : List ℕ) : Type 0 where
-  pub leads : (result : Answer) (after : List ℕ) → Scanned rowsOf x k buffer result after → Scanned rowsOf₀ x₀ k₀ buffer₀ result after
+pub record LeadsBy {X R E A A₀ : Type 0} (scan : Scan X R) (itemsOf : A → List X) (x : Result E A) (k : ℕ) (buffer : List ℕ)
+    (itemsOf₀ : A₀ → List X) (x₀ : Result E A₀) (k₀ : ℕ) (buffer₀ : List ℕ) : Type 0 where
+  pub leads : (result : R) (after : List ℕ) → ScannedBy scan itemsOf x k buffer result after → ScannedBy scan itemsOf₀ x₀ k₀ buffer₀ result after
+
+-- of rows that are read
+abbrev pub Scanned : {E A : Type 0} → (A → List Row) → Result E A → ℕ → List ℕ → Answer → List ℕ → Type 0
+Scanned = ScannedBy reading
+
+abbrev pub Leads : {E A A₀ : Type 0} → (A → List Row) → Result E A → ℕ → List ℕ → (A₀ → List Row) → Result E A₀ → ℕ → List ℕ → Type 0
+Leads = LeadsBy reading

@@ -6,7 +6,7 @@ use mathlib.Core.Logic.{_⊎_}
 use mathlib.Core.Bool.{Bool, true, cond, _&&_}
 use mathlib.Core.List.{List, [], _∷_}
 use lib.Dec.{eqb}
-use lib.ListN.{length}
+use lib.ListN.{length, getD}
 use Rattle.event.specs.declared.Row.{Row}
 use Rattle.event.specs.Parser.{Parser, Test, test, element}
 use Rattle.event.specs.Rows.{row}
@@ -34,6 +34,13 @@ rowsIn (k ∷ []) = []
 rowsIn (k ∷ u ∷ []) = []
 rowsIn (k ∷ u ∷ c ∷ []) = []
 rowsIn (k ∷ u ∷ c ∷ d ∷ xs) = row k u c d ∷ rowsIn xs
+
+-- row i of them; past the last one a row of zeros, of a kind that there is not
+abbrev pub noRow : Row
+noRow = row 0 0 0 0
+
+unfoldable pub rowAt : List ℕ → ℕ → Row
+rowAt xs i = getD (rowsIn xs) i noRow
 
 -- 20: the number of elements is not a multiple of four
 abbrev pub fromElements : (List Row → Outcome ℕ) → List ℕ → Outcome ℕ

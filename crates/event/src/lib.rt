@@ -3,6 +3,7 @@ pub mod channels;
 pub mod kind;
 pub mod refusal;
 pub mod rows;
+pub mod words;
 
 ghost use mathlib.Core.Path.{_≡_};
 ghost use Rattle.event.specs.Outcome.{defaultOrder};
@@ -24,6 +25,12 @@ pub enum StampOrder {
 // The number of rows (or words) given, or a refusal number and its place.
 pub enum Answer {
     Accepted(usize),
+    Refused { number: u32, place: usize },
+}
+
+// A part of an event: the place after it, and the number of rows (or words) given so far; or a refusal number and its place.
+pub enum Part {
+    Done { next: usize, count: usize },
     Refused { number: u32, place: usize },
 }
 

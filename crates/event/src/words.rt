@@ -1,0 +1,22 @@
+// Words in a lent buffer.
+ghost use mathlib.Core.Path.{_≡_};
+ghost use denote.Ref.{now};
+ghost use Rattle.event.specs.Words.{storeWord};
+
+// Stores the low 16 bits of a word at `at`, where the buffer has room for it.
+pub fn store_word16(words: &mut [u16], at: usize, word: usize)
+    ensures { λ _. ⌜ now (words .exit) ≡ storeWord 16 (now (words .entry)) at word ⌝ }
+{
+    if at < words.len() {
+        words[at] = (word % 65536) as u16;
+    }
+}
+
+// Stores a 32-bit word at `at`, where the buffer has room for it.
+pub fn store_word32(words: &mut [u32], at: usize, word: u32)
+    ensures { λ _. ⌜ now (words .exit) ≡ storeWord 32 (now (words .entry)) at word ⌝ }
+{
+    if at < words.len() {
+        words[at] = word;
+    }
+}

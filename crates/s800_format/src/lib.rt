@@ -1,0 +1,85 @@
+// What reading and writing dialect S share (document 01, 'Dialect S'): the tags, the formats of channel words, the pad of a sample.
+pub mod tag;
+
+use event::kind;
+ghost use mathlib.Core.Path.{_≡_};
+ghost use Rattle.s800_layout.specs.Layout.{pad};
+ghost use Rattle.s800_format.specs.Format.{timesFormat, energiesFormat, adcFormat, pairFormat};
+
+// The channel words of a packet: the kind of their rows, the row channel of channel 0, whether the number below the channel has
+// 13 bits and not 12, and the channels not allowed, as a set of bits.
+pub struct Format {
+    pub kind: u32,
+    pub base: u32,
+    pub wide: bool,
+    pub barred: u32,
+}
+
+// Times of channels 8 to 11.
+pub fn trigger_times() -> Format
+    ensures { λ r. ⌜ r ≡ timesFormat 0xf0ff ⌝ }
+{
+    times(0xf0ff)
+}
+
+// Times of channels 4 to 7 and 12 to 15.
+pub fn flight_times() -> Format
+    ensures { λ r. ⌜ r ≡ timesFormat 0x0f0f ⌝ }
+{
+    times(0x0f0f)
+}
+
+// Times of the channels that are not in a set.
+fn times(barred: u32) -> Format
+    ensures { λ r. ⌜ r ≡ timesFormat barred ⌝ }
+{
+    Format {
+        kind: kind::TIME,
+        base: 0,
+        wide: false,
+        barred,
+    }
+}
+
+// Energies of channels 0 to 15.
+pub fn energies(base: u32) -> Format
+    ensures { λ r. ⌜ r ≡ energiesFormat base ⌝ }
+{
+    Format {
+        kind: kind::ENERGY,
+        base,
+        wide: false,
+        barred: 0,
+    }
+}
+
+// Energies of 13 bits, of channels 0 to 7.
+pub fn adc_energies(base: u32) -> Format
+    ensures { λ r. ⌜ r ≡ adcFormat base ⌝ }
+{
+    Format {
+        kind: kind::ENERGY,
+        base,
+        wide: true,
+        barred: 0xff00,
+    }
+}
+
+// The energies of pairs, of channels 0 to 5.
+pub fn pair_energies() -> Format
+    ensures { λ r. ⌜ r ≡ pairFormat ⌝ }
+{
+    Format {
+        kind: kind::ENERGY,
+        base: 0,
+        wide: false,
+        barred: 0xffc0,
+    }
+}
+
+// The pad of a sample: channel 0 to 63 of connector 0 to 3.
+pub fn pad(channel: u16, connector: u16) -> u32
+    ensures { λ r. ⌜ r ≡ pad channel connector ⌝ }
+{
+    channel as u32 + 64 * connector as u32
+}

@@ -1,0 +1,149 @@
+-- The loops over content words that come in runs: one turn each, over plain values.
+-- Assumes nothing.
+use Prim.Native.Nat.{ℕ, suc, _+_, _*_, _/_, _%_, _^_, _≤_, _<_}
+use native.Mathlib.Omega.{arith}
+use native.Mathlib.Numerals.{add-one}
+use mathlib.Core.Path.{_≡_, refl, ap, _∙_, subst}
+use mathlib.Core.Bool.{true, cond}
+use mathlib.Core.List.{List, [], _∷_}
+use lib.Dec.{eqb, ltb}
+use lib.ListN.{length, getD}
+use lib.Seq.{slice}
+use borrow.Author.Tests.{eq-eqb, ne-eqb, lt-ltb, le-ltb}
+use Rattle.event.specs.declared.Answer.{Answer}
+use Rattle.event.specs.declared.Answer.the-variants.{Refused}
+use Rattle.event.specs.Parser.{ok, refuse, then, ended, many, several, each, alone}
+use Rattle.event.specs.Channels.{present, insert, others}
+use Rattle.event.specs.Rows.{row, storeRow}
+use Rattle.event.specs.Scanning.{storeRows, Scanned}
+use Rattle.event.proofs.ChannelLaws.{Blocked, blocked-more}
+use Rattle.event.proofs.Turns.{Reached, at-word, step, stop}
+use Rattle.s800_format.proofs.Formats.{pair-format}
+use Rattle.s800_layout.specs.Event.{ChannelFormat, pairEnergy}
+use Rattle.s800_layout.specs.Layout.{channelWord, sampleHeadWord, sampleDatumWord, sampleRow, pairRows, pairChannels}
+use Rattle.s800_layout.specs.Reading.{whole, datumOf, datum, pair, sampleHeadOf, sampleDatumOf, sample}
+use Rattle.s800_layout.proofs.Words.{codes-whole, codes-pair, codes-sample}
+use Rattle.s800_format.specs.Format.{formatOf, pairFormat}
+use Rattle.s800_reader.specs.Channel.{faultOf, opaqueRows, sampleRows, sampleOf, pairOf}
+use Rattle.s800_reader.proofs.Channels.{judged}
+
+pub read-whole : (ws : List ℕ) (i end : ℕ) → i < end → end ≤ length ws → getD ws i 0 < 2 ^ 16 → whole i (slice i end ws) ≡ ok (getD ws i 0) (i + 1) (slice (i + 1) end ws)
+read-whole ws i end h l f = rw (at-word ws i end h l, eq-eqb (getD ws i 0) (getD ws i 0) refl, lt-ltb (getD ws i 0) (2 ^ 16) f, add-one i)
+
+abbrev pub Opaques : List ℕ → ℕ → ℕ → ℕ → List ℕ → ℕ → ℕ → List ℕ → Type 0
+Opaques ws end = Reached (λ u. whole) alone opaqueRows (λ u. Unit {0}) ws end tt
+
+module _ {ws : List ℕ} {end i₀ k₀ i k : ℕ} {b₀ b b′ : List ℕ} (h : Opaques ws end i₀ k₀ b₀ i k b) (below : i < end) (long : end ≤ length ws)
+    {w : ℕ} (e : w ≡ getD ws i 0) (fits : w < 2 ^ 16) where
+  pub opaque-step : b′ ≡ storeRow b k (row 11 0 0 w) → length b′ ≡ length b → Opaques ws end i₀ k₀ b₀ (i + 1) (k + 1) b′
+  opaque-step q z =
+      let few = h .few in
+      step (λ u. codes-whole) (λ u a g r. refl) h below long (read-whole ws i end below long (rw e at fits)) tt (omega arith) (omega arith) refl (rw e at q) z
+
+-- two words below the end
+at-two : (ws : List ℕ) (i end : ℕ) {v w : ℕ} → i + 1 < end → end ≤ length ws → v ≡ getD ws i 0 → w ≡ getD ws (i + 1) 0
+    → slice i end ws ≡ v ∷ w ∷ slice (i + 2) end ws
+at-two ws i end {v} {w} h l p q =
+    let two : suc (suc i) ≡ i + 2 = omega arith in
+    at-word ws i end (omega arith) l ∙ rw (← p) (ap (v ∷_) (at-word ws (suc i) end (omega arith) l ∙ rw (two, q, add-one i)))
+
+-- a sample of two words
+module _ (i v w : ℕ) (r : List ℕ) where
+  sample-head : v < 2 ^ 15 → sample i (v ∷ w ∷ r) ≡ refuse 10 i
+  sample-head h =
+      let n : v ≡ sampleHeadWord (sampleHeadOf v) → ⊥ = λ e. omega arith in
+      rw (ne-eqb v (sampleHeadWord (sampleHeadOf v)) n)
+
+  module _ (h : 2 ^ 15 ≤ v) (f : v < 2 ^ 16) where
+    headed : sample i (v ∷ w ∷ r) ≡ then (λ d j s. ok (record { head = sampleHeadOf v; datum = d }) j s)
+        (cond (eqb w (sampleDatumWord (sampleDatumOf w))) (cond (ltb (w / 2 ^ 10) (2 ^ 2)) (cond (ltb (w % 2 ^ 10) (2 ^ 10)) (ok (sampleDatumOf w) (suc (suc i)) r) (refuse 10 (suc i))) (refuse 10 (suc i))) (refuse 10 (suc i)))
+    headed =
+        let e : v ≡ sampleHeadWord (sampleHeadOf v) = omega arith in
+        rw (eq-eqb v (sampleHeadWord (sampleHeadOf v)) e, lt-ltb (v / 2 ^ 6 % 2 ^ 9) (2 ^ 9) (omega arith), lt-ltb (v % 2 ^ 6) (2 ^ 6) (omega arith))
+
+    same-word : eqb w (sampleDatumWord (sampleDatumOf w)) ≡ true
+    same-word = eq-eqb w (sampleDatumWord (sampleDatumOf w)) (let e : w ≡ w / 2 ^ 10 * 2 ^ 10 + w % 2 ^ 10 = omega arith in e)
+
+    sample-datum : 2 ^ 12 ≤ w → sample i (v ∷ w ∷ r) ≡ refuse 10 (i + 1)
+    sample-datum g = headed ∙ rw (same-word, le-ltb (w / 2 ^ 10) (2 ^ 2) (omega arith), add-one i)
+
+    sample-whole : w < 2 ^ 12 → sample i (v ∷ w ∷ r) ≡ ok (sampleOf v w) (i + 2) r
+    sample-whole g =
+        let two : suc (suc i) ≡ i + 2 = omega arith in
+        headed ∙ rw (same-word, lt-ltb (w / 2 ^ 10) (2 ^ 2) (omega arith), lt-ltb (w % 2 ^ 10) (2 ^ 10) (omega arith), two)
+
+abbrev pub Samples : List ℕ → ℕ → ℕ → ℕ → List ℕ → ℕ → ℕ → List ℕ → Type 0
+Samples ws end = Reached (λ u. sample) alone sampleRows (λ u. Unit {0}) ws end tt
+
+abbrev SamplesScanned : List ℕ → ℕ → ℕ → ℕ → List ℕ → Answer → List ℕ → Type 0
+SamplesScanned ws end i₀ = Scanned (each sampleRows) (several sample ended i₀ (slice i₀ end ws))
+
+module _ {ws : List ℕ} {end i₀ k₀ i k : ℕ} {b₀ b : List ℕ} (h : Samples ws end i₀ k₀ b₀ i k b) (below : i + 1 < end) (long : end ≤ length ws)
+    {v : ℕ} (p : v ≡ getD ws i 0) where
+  pub sample-stop : {x : Answer} (after : List ℕ) → v < 2 ^ 15 → x ≡ Refused 10 i → SamplesScanned ws end i₀ k₀ b₀ x after
+  sample-stop after g x = rw x (stop (λ u. codes-sample) (λ u a g r. refl) h (omega arith) long after
+      (rw (at-two ws i end below long p refl) (sample-head i v (getD ws (i + 1) 0) (slice (i + 2) end ws) g)))
+
+  module _ {w : ℕ} (q : w ≡ getD ws (i + 1) 0) (f : v < 2 ^ 16) (g : 2 ^ 15 ≤ v) where
+    pub sample-stop-2 : {x : Answer} (after : List ℕ) → 2 ^ 12 ≤ w → x ≡ Refused 10 (i + 1) → SamplesScanned ws end i₀ k₀ b₀ x after
+    sample-stop-2 after d x = rw x (stop (λ u. codes-sample) (λ u a g r. refl) h (omega arith) long after
+        (rw (at-two ws i end below long p q) (sample-datum i v w (slice (i + 2) end ws) g f d)))
+
+    pub sample-step : {b′ : List ℕ} → w < 2 ^ 12 → b′ ≡ storeRow b k (sampleRow (sampleOf v w)) → length b′ ≡ length b → Samples ws end i₀ k₀ b₀ (i + 2) (k + 1) b′
+    sample-step d s z =
+        let few = h .few in
+        step (λ u. codes-sample) (λ u a g r. refl) h (omega arith) long
+        (rw (at-two ws i end below long p q) (sample-whole i v w (slice (i + 2) end ws) g f d)) tt (omega arith) (omega arith) refl s z
+
+-- a pair of two words, after the channels of a set
+module _ {set : ℕ} {seen : List ℕ} (s : Blocked (pairFormat .barred) set seen) (i : ℕ) {v : ℕ} (f : v < 2 ^ 16) (w : ℕ) (r : List ℕ) where
+  energy-judged : datum pairEnergy seen i (v ∷ w ∷ r)
+      ≡ cond (eqb (faultOf pairFormat set v) 0) (ok (datumOf pairEnergy v) (suc i) (w ∷ r)) (refuse (faultOf pairFormat set v) i)
+  energy-judged =
+      subst (λ (q : ChannelFormat). datum q seen i (v ∷ w ∷ r) ≡ cond (eqb (faultOf pairFormat set v) 0) (ok (datumOf q v) (suc i) (w ∷ r)) (refuse (faultOf pairFormat set v) i))
+      pair-format (judged pairFormat f s i (w ∷ r))
+
+  pair-energy : (n : ℕ) → n ≡ faultOf pairFormat set v → (n ≡ 0 → ⊥) → pair seen i (v ∷ w ∷ r) ≡ refuse n i
+  pair-energy n e z = rw (energy-judged, ← e, ne-eqb n 0 z)
+
+  module _ (e : 0 ≡ faultOf pairFormat set v) where
+    first-read : datum pairEnergy seen i (v ∷ w ∷ r) ≡ ok (datumOf pairEnergy v) (suc i) (w ∷ r)
+    first-read = energy-judged ∙ rw (← e)
+
+    pair-time : (w / 4096 ≡ v / 4096 → ⊥) → pair seen i (v ∷ w ∷ r) ≡ refuse 10 (i + 1)
+    pair-time z =
+        let n : w ≡ channelWord pairEnergy (v / 2 ^ 12) (w % 2 ^ 12) → ⊥ = λ d. z (omega arith) in
+        rw (first-read, ne-eqb w (channelWord pairEnergy (v / 2 ^ 12) (w % 2 ^ 12)) n, add-one i)
+
+    pair-whole : w / 4096 ≡ v / 4096 → pair seen i (v ∷ w ∷ r) ≡ ok (pairOf v w) (i + 2) r
+    pair-whole z =
+        let n : w ≡ channelWord pairEnergy (v / 2 ^ 12) (w % 2 ^ 12) = omega arith in
+        let two : suc (suc i) ≡ i + 2 = omega arith in
+        rw (first-read, eq-eqb w (channelWord pairEnergy (v / 2 ^ 12) (w % 2 ^ 12)) n, lt-ltb (w % 2 ^ 12) (2 ^ 12) (omega arith), two)
+
+-- `set` holds the barred channels, and those of the pairs before
+abbrev pub Pairs : ℕ → List ℕ → ℕ → ℕ → ℕ → List ℕ → ℕ → ℕ → List ℕ → Type 0
+Pairs set ws end = Reached pair pairChannels pairRows (Blocked (pairFormat .barred) set) ws end []
+
+abbrev PairsScanned : List ℕ → ℕ → ℕ → ℕ → List ℕ → Answer → List ℕ → Type 0
+PairsScanned ws end i₀ = Scanned (each pairRows) (many pair pairChannels ended [] i₀ (slice i₀ end ws))
+
+module _ {set : ℕ} {ws : List ℕ} {end i₀ k₀ i k : ℕ} {b₀ b : List ℕ} (h : Pairs set ws end i₀ k₀ b₀ i k b) (below : i + 1 < end) (long : end ≤ length ws)
+    {v : ℕ} (p : v ≡ getD ws i 0) (f : v < 2 ^ 16) where
+  pub pair-stop : {n : ℕ} (after : List ℕ) → n ≡ faultOf pairFormat set v → (n ≡ 0 → ⊥) → PairsScanned ws end i₀ k₀ b₀ (Refused n i) after
+  pair-stop {n} after e z = stop codes-pair (λ u a g r. refl) h (omega arith) long after
+      (rw (at-two ws i end below long p refl) (pair-energy (h .holds) i f (getD ws (i + 1) 0) (slice (i + 2) end ws) n e z))
+
+  module _ {w : ℕ} (q : w ≡ getD ws (i + 1) 0) (e : 0 ≡ faultOf pairFormat set v) where
+    pub pair-stop-2 : {x : Answer} (after : List ℕ) → (w / 4096 ≡ v / 4096 → ⊥) → x ≡ Refused 10 (i + 1) → PairsScanned ws end i₀ k₀ b₀ x after
+    pair-stop-2 after z x = rw x (stop codes-pair (λ u a g r. refl) h (omega arith) long after
+        (rw (at-two ws i end below long p q) (pair-time (h .holds) i f w (slice (i + 2) end ws) e z)))
+
+    pub pair-step : {set′ : ℕ} {b′ : List ℕ} → w / 4096 ≡ v / 4096 → set′ ≡ insert set (v / 4096 % 32) → b′ ≡ storeRows b k (pairRows (pairOf v w)) → length b′ ≡ length b
+        → Pairs set′ ws end i₀ k₀ b₀ (i + 2) (k + 2) b′
+    pair-step z t s l =
+        let few = h .few in
+        let low : v / 4096 % 32 ≡ v / 4096 = omega arith in
+        step codes-pair (λ u a g r. refl) h (omega arith) long
+        (rw (at-two ws i end below long p q) (pair-whole (h .holds) i f w (slice (i + 2) end ws) e z))
+        (rw (t, low) (blocked-more (v / 4096) (h .holds))) (omega arith) (omega arith) refl s l
