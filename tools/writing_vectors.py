@@ -414,7 +414,8 @@ HEAD = [own(0x5803), (STAMP, 0, 0x44443333, 0x22221111),
 
 CRDC_SAMPLES = [(SAMPLE, 0, 0, 0), (SAMPLE, 511, 255, 1023),
                 (SAMPLE, 37, 146, 300), (SAMPLE, 37, 146, 300),
-                (SAMPLE, 1, 63, 2), (SAMPLE, 2, 64, 1), (SAMPLE, 256, 191, 512)]
+                (SAMPLE, 1, 63, 2), (SAMPLE, 2, 64, 1),
+                (SAMPLE, 256, 191, 512)]
 
 # Each packet with one row of each kind that it may hold.
 ONE = {
@@ -902,7 +903,8 @@ def f_repeats(v):
     thirteen = (EMPTY, 13, 0, 0)
     for rows in ([F_EMPTY, F_EMPTY], [F_EMPTY] + other, other + [F_EMPTY],
                  other + other, other + F_MODULE,
-                 F_MODULE + [F_EMPTY, thirteen], [thirteen, F_EMPTY] + F_MODULE,
+                 F_MODULE + [F_EMPTY, thirteen],
+                 [thirteen, F_EMPTY] + F_MODULE,
                  other + [thirteen] + other[:1]):
         v.f(F_HEAD + rows)
     for channels in ((4, 4), (4, 5, 4), (0, 31, 31), (1, 2, 3)):

@@ -5,10 +5,9 @@ use native.Mathlib.Omega.{arith}
 use mathlib.Core.Path.{_≡_, refl, ap, sym, _∙_}
 use mathlib.Core.List.{List, [], _∷_, _++_}
 use lib.ListN.{length, length-append}
-use Rattle.event.specs.declared.Answer.the-variants.{Refused}
-use Rattle.event.specs.declared.Row.{Row}
+use Rattle.event.specs.declared.Answer.the-variants.{Accepted, Refused}
 use Rattle.event.specs.Parser.{Result, ok, refuse, then, give}
-use Rattle.event.specs.Scanning.{Scan, stores, ScannedBy, LeadsBy, Scanned}
+use Rattle.event.specs.Scanning.{Scan, stores, answering, ScannedBy, LeadsBy}
 use Rattle.event.proofs.Impossible.{impossible}
 
 pub leads-refl : {X R E A : Type 0} {scan : Scan X R} {f : A → List X} {x : Result E A} {k : ℕ} {b : List ℕ} → LeadsBy scan f x k b f x k b
@@ -57,10 +56,24 @@ scanned-none {X} {R} {E} {A} {scan} f {x} {a} {j} {r} k b e n = rw e (record {
   stored = ap (stores (scan .store) b k) (sym n);
 })
 
--- a reading that refused says what was refused
-pub refused-scan : {E A : Type 0} (f : A → List Row) (x : Result E A) {k n p : ℕ} {b after : List ℕ} → Scanned f x k b (Refused n p) after → x ≡ refuse n p
+-- a scan that refused says what was refused
+pub refused-scan : {X E A : Type 0} {store : List ℕ → ℕ → X → List ℕ} {most : ℕ → ℕ} (f : A → List X) (x : Result E A) {k n p : ℕ} {b after : List ℕ}
+    → ScannedBy (answering store most) f x k b (Refused n p) after → x ≡ refuse n p
 refused-scan f (ok a j r) s = let e = s .answered in impossible cc
 refused-scan f (refuse m q) s = let e = s .answered in cc
+
+-- and one from the start that did not, what was taken
+pub record Taken {X E A : Type 0} (f : A → List X) (x : Result E A) (count : ℕ) : Type 0 where
+  pub value : A
+  pub place : ℕ
+  pub input : List E
+  pub parsed : x ≡ ok value place input
+  pub counted : count ≡ length (f value)
+
+pub accepted-scan : {X E A : Type 0} {store : List ℕ → ℕ → X → List ℕ} {most : ℕ → ℕ} (f : A → List X) (x : Result E A) {e : ℕ} {b after : List ℕ}
+    → ScannedBy (answering store most) f x 0 b (Accepted e) after → Taken f x e
+accepted-scan f (ok a j r) {e = n} s = let e = s .answered in let c : n ≡ 0 + length (f a) = cc in record { value = a; place = j; input = r; parsed = refl; counted = omega arith }
+accepted-scan f (refuse m q) s = let e = s .answered in impossible cc
 
 -- what was scanned whole leads on from a success without items
 pub leads-done : {X R E A B : Type 0} {scan : Scan X R} (f : A → List X) {x : Result E A} {a : A} {j : ℕ} {r : List E} {f₀ : B → List X} {x₀ : Result E B} {k k₀ : ℕ} {b b₀ : List ℕ}

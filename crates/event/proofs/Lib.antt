@@ -20,4 +20,6 @@ pub mod ReadingRefusals
 pub mod WritingRefusals
 pub mod RowsIn
 pub mod WordStores
+pub mod RowJudged
+pub mod WritingTurns
 pub mod Vectors

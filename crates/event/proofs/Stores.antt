@@ -1,21 +1,24 @@
--- From rows stored one by one to the rows of an outcome: the three ways out of a reading that checks, tests the room and fills.
+-- From items stored one by one to those of an outcome: the ways out of a reading, and of a writing, that checks, tests the room and fills.
 -- Assumes nothing.
-use Prim.Native.Nat.{ℕ, suc, _+_, _*_, _≤_, _<_}
+use Prim.Native.Nat.{ℕ, suc, _+_, _*_, _%_, _≤_, _<_}
 use native.Mathlib.Nat.{zero-add}
 use native.Mathlib.Omega.{arith}
 use mathlib.Core.Path.{_≡_, refl, ap, _∙_}
 use mathlib.Core.List.{List, [], _∷_}
 use lib.ListN.{length}
 use lib.Seq.{sets, sets-eq, length-sets}
-use borrow.Author.Tests.{lt-ltb, le-leb, lt-leb}
+use borrow.Author.Tests.{lt-ltb, le-leb, lt-leb, eq-eqb, ne-eqb}
 use Rattle.event.specs.declared.Answer.{Answer}
 use Rattle.event.specs.declared.Answer.the-variants.{Accepted, Refused}
 use Rattle.event.specs.declared.Row.{Row}
-use Rattle.event.specs.Parser.{Result, ok, refuse}
+use Rattle.event.specs.Parser.{Result, ok, Parser}
 use Rattle.event.specs.Rows.{flatRow, flat, room, storeRow}
-use Rattle.event.specs.Outcome.{Outcome, done, outcome, inRoom, given, answerOf, overlaid}
-use Rattle.event.specs.Scanning.{storeRows, Scanned}
-use Rattle.event.proofs.Impossible.{impossible}
+use Rattle.event.specs.Outcome.{Outcome, done, refused, outcome, limited, inRoom, inWordRoom, given, answerOf, overlaid}
+use Rattle.event.specs.Writing.{rowsIn, writingBy}
+use Rattle.event.specs.Demands.{InWidth}
+use Rattle.event.specs.Scanning.{storeRows, writingAll, ScannedBy, Scanned}
+use Rattle.event.proofs.Leads.{Taken, refused-scan, accepted-scan}
+use Rattle.event.proofs.WordStores.{words-laid}
 
 length-flat : (rs : List Row) → length (flat rs) ≡ length rs * 4
 length-flat [] = refl
@@ -36,35 +39,82 @@ overlay buffer rs h =
     let s : length (flat rs) ≡ length rs * 4 = length-flat rs in
     stores buffer 0 rs (omega arith) ∙ sets-eq (flat rs) buffer 0 (omega arith) ∙ rw zero-add
 
-module _ {E A : Type 0} (rowsOf : A → List Row) (x : Result E A) (buffer : List ℕ) where
-  -- the outcome in the room of the buffer
-  abbrev pub gave : Outcome Row
-  gave = inRoom (room (length buffer)) (outcome (λ a. done (rowsOf a)) x)
+-- what a function answers and leaves in the buffer, for an outcome whose items are `flatten` as elements
+pub record Gives {X : Type 0} (flatten : List X → List ℕ) (buffer : List ℕ) (gave : Outcome X) (result : Answer) (after : List ℕ) : Type 0 where
+  pub answered : result ≡ answerOf gave
+  pub written : after ≡ overlaid (flatten (given gave)) buffer
 
-  pub record Read (result : Answer) (after : List ℕ) : Type 0 where
-    pub answered : result ≡ answerOf gave
-    pub written : after ≡ overlaid (flat (given gave)) buffer
+gives-refused : {X : Type 0} {flatten : List X → List ℕ} {buffer : List ℕ} {gave : Outcome X} {n p : ℕ} → flatten [] ≡ [] → gave ≡ refused n p
+    → Gives flatten buffer gave (Refused n p) buffer
+gives-refused z e = record { answered = rw e; written = rw (e, z) }
 
-module _ {E A : Type 0} (rowsOf : A → List Row) (buffer : List ℕ) where
-  pub read-refused : (x : Result E A) {n p : ℕ} {b after : List ℕ} → Scanned rowsOf x 0 b (Refused n p) after → Read rowsOf x buffer (Refused n p) buffer
-  read-refused (ok a j r) s = let e = s .answered in impossible cc
-  read-refused (refuse m q) s = record { answered = s .answered; written = refl }
+-- 12, 23, 24
+over : {A : Type 0} (n most : ℕ) (xs : List A) → most < length xs → limited n most (done xs) ≡ refused n (length xs)
+over n most xs h = rw (lt-leb (length xs) most h)
 
-  pub read-crowded : (x : Result E A) {k : ℕ} {b after : List ℕ} → Scanned rowsOf x 0 b (Accepted k) after → room (length buffer) < k → Read rowsOf x buffer (Refused 12 k) buffer
-  read-crowded (refuse m q) s h = let e = s .answered in impossible cc
-  read-crowded (ok a j r) {k} s h =
-      let e = s .answered in
-      let c : k ≡ 0 + length (rowsOf a) = cc in
-      let d : k ≡ length (rowsOf a) = omega arith in
-      let t = lt-leb (length (rowsOf a)) (room (length buffer)) (omega arith) in
-      record { answered = rw (t, d); written = rw t }
+within : {A : Type 0} (n most : ℕ) (xs : List A) → length xs ≤ most → limited n most (done xs) ≡ done xs
+within n most xs h = rw (le-leb (length xs) most h)
 
-  pub read-fits : (x : Result E A) {k : ℕ} {b after after′ : List ℕ} {result : Answer} → Scanned rowsOf x 0 b (Accepted k) after → k ≤ room (length buffer)
-      → Scanned rowsOf x 0 buffer result after′ → Read rowsOf x buffer result after′
-  read-fits (refuse m q) s h t = let e = s .answered in impossible cc
-  read-fits (ok a j r) {k} s h t =
-      let e = s .answered in
-      let c : k ≡ 0 + length (rowsOf a) = cc in
-      let l : length (rowsOf a) ≤ room (length buffer) = omega arith in
-      let f = le-leb (length (rowsOf a)) (room (length buffer)) l in
-      record { answered = rw f (t .answered ∙ ap Accepted (zero-add (length (rowsOf a)))); written = rw f (t .stored ∙ overlay buffer (rowsOf a) l) }
+module _ {E A : Type 0} (rowsOf : A → List Row) (buffer : List ℕ) (x : Result E A) where
+  -- a reading into the room of the buffer
+  abbrev ReadInto : Answer → List ℕ → Type 0
+  ReadInto = Gives flat buffer (inRoom (room (length buffer)) (outcome (λ a. done (rowsOf a)) x))
+
+  pub read-refused : {n p : ℕ} {b after : List ℕ} → Scanned rowsOf x 0 b (Refused n p) after → ReadInto (Refused n p) buffer
+  read-refused s = gives-refused refl (rw (refused-scan rowsOf x s))
+
+  pub read-crowded : {k : ℕ} {b after : List ℕ} → Scanned rowsOf x 0 b (Accepted k) after → room (length buffer) < k → ReadInto (Refused 12 k) buffer
+  read-crowded {k} s = go (accepted-scan rowsOf x s)
+    where
+      go : Taken rowsOf x k → room (length buffer) < k → ReadInto (Refused 12 k) buffer
+      go t h = gives-refused refl (rw (t .parsed, t .counted) (over 12 (room (length buffer)) (rowsOf (t .value)) (rw (t .counted) at h)))
+
+  pub read-fits : {k : ℕ} {b after after′ : List ℕ} {result : Answer} → Scanned rowsOf x 0 b (Accepted k) after → k ≤ room (length buffer)
+      → Scanned rowsOf x 0 buffer result after′ → ReadInto result after′
+  read-fits {k} {after′ = after′} {result = result} s = go (accepted-scan rowsOf x s)
+    where
+      go : Taken rowsOf x k → k ≤ room (length buffer) → Scanned rowsOf x 0 buffer result after′ → ReadInto result after′
+      go t h u =
+          let l = rw (t .counted) at h in
+          let v = rw (t .parsed) at u in
+          rw (t .parsed, within 12 (room (length buffer)) (rowsOf (t .value)) l)
+          (record { answered = v .answered ∙ ap Accepted (zero-add (length (rowsOf (t .value)))); written = v .stored ∙ overlay buffer (rowsOf (t .value)) l })
+
+-- a writing of the elements xs into the buffer
+module _ {Event : Type 0} (width largest : ℕ) (words : Event → List ℕ) (parser : Parser Row Event) (xs buffer : List ℕ) where
+  abbrev WrittenInto : Answer → List ℕ → Type 0
+  WrittenInto = Gives (λ ws. ws) buffer (inWordRoom (length buffer) (writingBy words largest parser xs))
+
+  pub write-uneven : (length xs % 4 ≡ 0 → ⊥) → WrittenInto (Refused 20 0) buffer
+  write-uneven h = gives-refused refl (rw (ne-eqb (length xs % 4) 0 h))
+
+  module _ (four : length xs % 4 ≡ 0) where
+    abbrev parsed : Result Row Event
+    parsed = parser 0 (rowsIn xs)
+
+    by-rows : writingBy words largest parser xs ≡ limited 23 largest (outcome (λ e. done (words e)) parsed)
+    by-rows = rw (eq-eqb (length xs % 4) 0 four)
+
+    pub write-refused : {n p : ℕ} {b after : List ℕ} → ScannedBy (writingAll width) words parsed 0 b (Refused n p) after → WrittenInto (Refused n p) buffer
+    write-refused s = gives-refused refl (rw (by-rows, refused-scan words parsed s))
+
+    -- 23, then 24, of the words of what was taken
+    module _ {k : ℕ} (t : Taken words parsed k) where
+      pub write-large : largest < k → WrittenInto (Refused 23 k) buffer
+      write-large h = gives-refused refl (rw (by-rows, t .parsed, t .counted, over 23 largest (words (t .value)) (rw (t .counted) at h)))
+
+      module _ (small : k ≤ largest) where
+        in-size : writingBy words largest parser xs ≡ done (words (t .value))
+        in-size = by-rows ∙ rw (t .parsed) (within 23 largest (words (t .value)) (rw (t .counted) at small))
+
+        pub write-crowded : length buffer < k → WrittenInto (Refused 24 k) buffer
+        write-crowded h = gives-refused refl (rw (in-size, t .counted) (over 24 (length buffer) (words (t .value)) (rw (t .counted) at h)))
+
+        pub write-fits : {after : List ℕ} {result : Answer} → ((e : Event) (j : ℕ) (r : List Row) → parsed ≡ ok e j r → length (words e) ≤ largest → InWidth width (words e)) → k ≤ length buffer
+            → ScannedBy (writingAll width) words parsed 0 buffer result after → WrittenInto result after
+        write-fits fit h s =
+            let l = rw (t .counted) at h in
+            let f = fit (t .value) (t .place) (t .input) (t .parsed) (rw (t .counted) at small) in
+            let v = rw (t .parsed) at s in
+            rw (in-size, within 24 (length buffer) (words (t .value)) l)
+            (record { answered = v .answered ∙ ap Accepted (zero-add (length (words (t .value)))); written = v .stored ∙ words-laid width (words (t .value)) buffer f l })

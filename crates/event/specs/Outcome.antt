@@ -34,6 +34,10 @@ limited n most (refused m k) = refused m k
 abbrev pub inRoom : ℕ → Outcome Row → Outcome Row
 inRoom room = limited 12 room
 
+-- a writing into room for so many words: 24 last
+abbrev pub inWordRoom : ℕ → Outcome ℕ → Outcome ℕ
+inWordRoom room = limited 24 room
+
 -- the items of an outcome; none on refusal
 abbrev pub given : {A : Type 0} → Outcome A → List A
 given (done xs) = xs

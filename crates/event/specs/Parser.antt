@@ -29,6 +29,11 @@ abbrev pub Passed : List Test → Type 0
 Passed [] = Unit {0}
 Passed (t ∷ ts) = T (t .holds) × Passed ts
 
+-- the number of the first rule that fails, 0 for none
+abbrev pub faultIn : List Test → ℕ
+faultIn [] = 0
+faultIn (t ∷ ts) = cond (t .holds) (faultIn ts) (t .number)
+
 abbrev pub ended : {E : Type 0} → List E → Bool
 ended [] = true
 ended (x ∷ r) = false

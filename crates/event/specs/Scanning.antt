@@ -1,7 +1,7 @@
 -- What a scan leaves behind that stores its items one by one, rows (a reading) or words (a writing), each where the buffer has room. (The contracts of
 -- private functions speak of it; no public one does.)
 -- Assumes nothing.
-use Prim.Native.Nat.{ℕ, _+_, _*_}
+use Prim.Native.Nat.{ℕ, _+_, _*_, _≤_}
 use mathlib.Core.Path.{_≡_}
 use mathlib.Core.List.{List, [], _∷_}
 use lib.ListN.{length}
@@ -33,16 +33,20 @@ pub record Scan (X R : Type 0) : Type 0 where
   pub accepted : (next count : ℕ) → R
   pub refused : (number place : ℕ) → R
 
+-- of a whole event, or of a part that ends where its caller knows
+abbrev pub answering : {X : Type 0} → (store : List ℕ → ℕ → X → List ℕ) → (most : ℕ → ℕ) → Scan X Answer
+answering store most = record { store = store; most = most; accepted = λ next count. answer.Accepted count; refused = answer.Refused }
+
 -- reading: no more rows than words
 abbrev pub reading : Scan Row Answer
-reading = record { store = storeRow; most = λ i. i; accepted = λ next count. answer.Accepted count; refused = answer.Refused }
+reading = answering storeRow (λ i. i)
 
--- writing, a part of an event and the whole: at most four words for a row
-abbrev pub writingPart : (width : ℕ) → Scan ℕ Part
-writingPart width = record { store = storeWord width; most = λ i. 4 * i; accepted = part.Done; refused = part.Refused }
-
+-- writing, the whole event and a part of it: at most four words for a row
 abbrev pub writingAll : (width : ℕ) → Scan ℕ Answer
-writingAll width = record { store = storeWord width; most = λ i. 4 * i; accepted = λ next count. answer.Accepted count; refused = answer.Refused }
+writingAll width = answering (storeWord width) (4 *_)
+
+abbrev pub writingPart : (width : ℕ) → Scan ℕ Part
+writingPart width = record { store = storeWord width; most = 4 *_; accepted = part.Done; refused = part.Refused }
 
 module _ {X R E A : Type 0} (scan : Scan X R) (itemsOf : A → List X) where
   -- the answer to what a parser gave, after k items
@@ -71,3 +75,13 @@ Scanned = ScannedBy reading
 
 abbrev pub Leads : {E A A₀ : Type 0} → (A → List Row) → Result E A → ℕ → List ℕ → (A₀ → List Row) → Result E A₀ → ℕ → List ℕ → Type 0
 Leads = LeadsBy reading
+
+-- of words that are written: a part that ends within the rows, with at most four words for a row
+abbrev WithinRows : List Row → Part → Type 0
+WithinRows rs (part.Done next count) = (next ≤ length rs) × (count ≤ 4 * next)
+WithinRows rs (part.Refused n p) = Unit {0}
+
+-- a part that x parsed from rows, written after k words in the buffer `before`
+pub record Writes {A : Type 0} (width : ℕ) (wordsOf : A → List ℕ) (x : Result Row A) (rs : List Row) (k : ℕ) (before : List ℕ) (result : Part) (after : List ℕ) : Type 0 where
+  pub scanned : ScannedBy (writingPart width) wordsOf x k before result after
+  pub within : WithinRows rs result

@@ -15,9 +15,13 @@ use Rattle.event.specs.Outcome.{Outcome, done, refused, outcome, limited
 abbrev pub sameRow : Row → Row → Bool
 sameRow r s = eqb (r .kind) (s .kind) && (eqb (r .unit) (s .unit) && (eqb (r .channel) (s .channel) && eqb (r .datum) (s .datum)))
 
--- a row with fields. 21: the rows end, or it may not stand there. 22: it is not the row that its fields print, or a check of theirs fails.
+-- the tests of a row with fields. 21: it may not stand there. 22: it is not the row that its fields print, or a check of theirs fails.
+abbrev pub rowTests : {A : Type 0} → (Row → Bool) → (Row → A) → (A → Row) → (A → List Test) → Row → List Test
+rowTests stands fields print checks r = test 21 (stands r) ∷ test 22 (sameRow r (print (fields r))) ∷ checks (fields r)
+
+-- such a row; 21 also where the rows end
 abbrev pub rowWith : {A : Type 0} → (Row → Bool) → (Row → A) → (A → Row) → (A → List Test) → Parser Row A
-rowWith stands fields print checks = element 21 fields (λ r. test 21 (stands r) ∷ test 22 (sameRow r (print (fields r))) ∷ checks (fields r))
+rowWith stands fields print checks = element 21 fields (rowTests stands fields print checks)
 
 abbrev pub ofKind : ℕ → Row → Bool
 ofKind k r = eqb k (r .kind)

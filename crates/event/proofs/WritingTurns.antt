@@ -1,0 +1,75 @@
+-- A loop by an index that writes words from rows: what it has reached, and what a turn does.
+-- Assumes nothing.
+use Prim.Native.Nat.{ℕ, zero, suc, _+_, _*_, _≤_}
+use native.Mathlib.Omega.{arith}
+use mathlib.Core.Path.{_≡_, refl, sym, ap, _∙_}
+use mathlib.Core.List.{List, [], _∷_, _++_}
+use lib.ListN.{length, drop, length-append, length-drop}
+use lib.Seq.{drop-at, drop-drop}
+use Rattle.event.specs.declared.Part.the-variants.{Done, Refused}
+use Rattle.event.specs.declared.Row.{Row}
+use Rattle.event.specs.Parser.{Result, ok, refuse, Parser, _>>=_, give, times, each}
+use Rattle.event.specs.Scanning.{storeWords, ScannedBy, writingPart, Writes}
+use Rattle.event.proofs.Codes.{Codes}
+use Rattle.event.proofs.Impossible.{impossible}
+use Rattle.event.proofs.Loops.{to-the-end}
+use Rattle.event.proofs.Turns.{Items, ReachedBy, stopped, item-refused, item-taken}
+
+-- where a parser of the elements from i on ends
+pub placed : {E A : Type 0} {Rest : List E → Type 0} {p : Parser E A} {print : A → List E} {Good : A → Type 0} → Codes Rest p print Good
+    → (l : List E) (i : ℕ) {a : A} {j : ℕ} {r : List E} → i ≤ length l → p i (drop i l) ≡ ok a j r → (r ≡ drop j l) × (j ≡ i + length (print a)) × (j ≤ length l)
+placed {E} {print = print} c l i {a} {j} {r} h e =
+    let s = c .sound i (drop i l) a j r e in
+    let n = print a in
+    let d : drop j l ≡ r = ap (λ (k : ℕ). drop k l) (s .2) ∙ sym (drop-drop (length n) i l) ∙ ap (drop (length n)) (s .1) ∙ drop-at n r (length n) refl in
+    (sym d, s .2, omega (arith, s .2, ap length (s .1), length-append n r, length-drop i l))
+
+-- counted items: the state has the number of those left
+abbrev one-less : ℕ → ℕ
+one-less zero = zero
+one-less (suc n) = n
+
+abbrev pub counted : {E St A : Type 0} → (St → Parser E A) → (St → A → St) → Items E (ℕ × St) A
+counted item next = record { item = λ s. item (s .1); next = λ s a. (one-less (s .0), next (s .1) a); rest = λ s. times item next (s .0) (s .1) }
+
+-- the rows from i on give words after the k before them
+abbrev pub WritesOn : {St A : Type 0} → (width : ℕ) → Items Row St A → (A → List ℕ) → (St → Type 0) → List Row → St → ℕ → ℕ → List ℕ → ℕ → ℕ → List ℕ → Type 0
+WritesOn width items f Holds rs = ReachedBy (writingPart width) items f Holds rs (length rs)
+
+module _ (width : ℕ) {St A : Type 0} {items : Items Row St A} {f : A → List ℕ} {Holds : St → Type 0} {rs : List Row}
+    {st₀ : St} {i₀ k₀ i k : ℕ} {b₀ b : List ℕ} (h : WritesOn width items f Holds rs st₀ i₀ k₀ b₀ i k b) where
+  -- no item is left
+  pub rows-done : items .rest (h .state) i (drop i rs) ≡ ok [] i (drop i rs) → Writes width (each f) (items .rest st₀ i₀ (drop i₀ rs)) rs k₀ b₀ (Done i k) b
+  rows-done e = record { scanned = rw (to-the-end i₀ rs) (stopped h (rw (← to-the-end i rs) e)); within = (h .inside, h .few) }
+
+  -- one item more
+  module _ (more : items .rest (h .state) i (drop i rs) ≡ (items .item (h .state) >>= λ a. items .rest (items .next (h .state) a) >>= λ xs. give (a ∷ xs)) i (drop i rs)) where
+    pub rows-refused : {n p : ℕ} (after : List ℕ) → items .item (h .state) i (drop i rs) ≡ refuse n p
+        → Writes width (each f) (items .rest st₀ i₀ (drop i₀ rs)) rs k₀ b₀ (Refused n p) after
+    rows-refused after e = record { scanned = rw (to-the-end i₀ rs) (item-refused h (rw (← to-the-end i rs) more) after (rw (← to-the-end i rs) e)); within = tt }
+
+    pub rows-taken : {Holds′ : St → Type 0} {a : A} {j k′ : ℕ} {b′ : List ℕ} → items .item (h .state) i (drop i rs) ≡ ok a j (drop j rs)
+        → Holds′ (items .next (h .state) a) → j ≤ length rs → k′ ≤ 4 * j → k′ ≡ k + length (f a) → b′ ≡ storeWords width b k (f a) → length b′ ≡ length b
+        → WritesOn width items f Holds′ rs st₀ i₀ k₀ b₀ j k′ b′
+    rows-taken {j = j} e = item-taken h (rw (← to-the-end i rs) more) (rw (← to-the-end i rs, ← to-the-end j rs) e)
+
+-- a part that was written, and one that was refused
+module _ (width : ℕ) {A : Type 0} (f : A → List ℕ) where
+  pub record Wrote (x : Result Row A) (k : ℕ) (before : List ℕ) (next count : ℕ) (after : List ℕ) : Type 0 where
+    pub value : A
+    pub input : List Row
+    pub parsed : x ≡ ok value next input
+    pub counted : count ≡ k + length (f value)
+    pub stored : after ≡ storeWords width before k (f value)
+
+  pub wrote : (x : Result Row A) {k j e : ℕ} {b after : List ℕ} → ScannedBy (writingPart width) f x k b (Done j e) after → Wrote x k b j e after
+  wrote (ok a i r) {k} {j} {e} s =
+      let q = s .answered in
+      let u : j ≡ i = cc in
+      let v : e ≡ k + length (f a) = cc in
+      record { value = a; input = r; parsed = rw u; counted = v; stored = s .stored }
+  wrote (refuse n p) s = let q = s .answered in impossible cc
+
+  pub unwritten : (x : Result Row A) {k n p : ℕ} {b after : List ℕ} → ScannedBy (writingPart width) f x k b (Refused n p) after → x ≡ refuse n p
+  unwritten (ok a i r) s = let q = s .answered in impossible cc
+  unwritten (refuse m q) s = let e = s .answered in cc
