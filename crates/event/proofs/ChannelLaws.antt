@@ -6,7 +6,7 @@ use native.Mathlib.Omega.{arith}
 use mathlib.Core.Path.{_≡_, refl, sym, ap, _∙_}
 use mathlib.Core.Bool.{Bool, true, false, cond, not, _&&_, _||_}
 use mathlib.Core.List.{List, [], _∷_}
-use lib.Dec.{eqb, ltb}
+use lib.Dec.{T, eqb, ltb}
 use lib.Pow.{pow-pos, pow-lt, pow-add, shl-shr}
 use lib.Bits.{bitOr, or-shr, or-mod}
 use borrow.Author.Tests.{eq-eqb, ne-eqb, eqb-true, eqb-false, ltb-true, ltb-false}
@@ -95,6 +95,19 @@ none-below set c (suc n) k h = go (present set c) (none-below set (suc c) n k (o
     go : (b : Bool) → member k (others (suc c) n set) ≡ false → member k (cond b (others (suc c) n set) (c ∷ others (suc c) n set)) ≡ false
     go true e = e
     go false e = rw (ne-eqb k c (λ p. omega arith), e)
+
+pub others-below : (set c n k : ℕ) → T (member k (others c n set)) → k < c + n
+unfolding others
+others-below set c zero k t = absurd t
+others-below set c (suc n) k t = go (λ u. let l = others-below set (suc c) n k u in omega arith) (present set c) t
+  where
+    one : (b : Bool) → eqb k c ≡ b → (T (member k (others (suc c) n set)) → k < c + suc n) → T (b || member k (others (suc c) n set)) → k < c + suc n
+    one true e ih t = let z = eqb-true k c e in omega arith
+    one false e ih t = ih t
+
+    go : (T (member k (others (suc c) n set)) → k < c + suc n) → (b : Bool) → T (member k (cond b (others (suc c) n set) (c ∷ others (suc c) n set))) → k < c + suc n
+    go ih true t = ih t
+    go ih false t = one (eqb k c) refl ih t
 
 pub among : (set c n k : ℕ) → c ≤ k → k < c + n → member k (others c n set) ≡ not (present set k)
 unfolding others

@@ -18,7 +18,7 @@ use Rattle.event.proofs.Codes.{Codes, any, codes-element}
 use Rattle.event.proofs.Elements.{both}
 use Rattle.event.proofs.Whole.{passed}
 
-same-row : (r s : Row) → T (sameRow r s) → r ≡ s
+pub same-row : (r s : Row) → T (sameRow r s) → r ≡ s
 same-row r s t =
     let a = both (eqb (r .kind) (s .kind)) _ t in
     let b = both (eqb (r .unit) (s .unit)) _ (a .1) in
@@ -30,7 +30,7 @@ same-row r s t =
       datum = eqb→eq (r .datum) (s .datum) (c .1) i;
     }
 
-row-refl : (r : Row) → T (sameRow r r)
+pub row-refl : (r : Row) → T (sameRow r r)
 row-refl r =
     let self : (n : ℕ) → eqb n n ≡ true = λ n. eq-eqb n n refl in
     rw (self (r .kind), self (r .unit), self (r .channel), self (r .datum)) tt

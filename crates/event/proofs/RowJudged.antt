@@ -41,7 +41,7 @@ module _ {E A : Type 0} (a : A) (i : ℕ) (r : List E) where
 pub rows-from : (rs : List Row) (i : ℕ) → i < length rs → drop i rs ≡ getD rs i noRow ∷ drop (i + 1) rs
 rows-from rs i h = rw (add-one i) (drop-cons rs i noRow h)
 
-rows-over : (rs : List Row) (i : ℕ) → length rs ≤ i → (drop i rs ≡ []) × (getD rs i noRow ≡ noRow)
+pub rows-over : (rs : List Row) (i : ℕ) → length rs ≤ i → (drop i rs ≡ []) × (getD rs i noRow ≡ noRow)
 rows-over [] zero h = (refl, refl)
 rows-over [] (suc i) h = (refl, refl)
 rows-over (r ∷ rs) zero h = absurd (omega arith)

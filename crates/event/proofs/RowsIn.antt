@@ -19,7 +19,6 @@ rows-count (k ∷ u ∷ c ∷ d ∷ xs) = omega (arith, rows-count xs)
 -- four elements from 4 × i on
 pub row-there : (xs : List ℕ) (i : ℕ) → i < length xs / 4
     → row (getD xs (i * 4) 0) (getD xs (i * 4 + 1) 0) (getD xs (i * 4 + 2) 0) (getD xs (i * 4 + 3) 0) ≡ rowAt xs i
-unfolding rowAt
 row-there [] i h = absurd (omega arith)
 row-there (k ∷ []) i h = absurd (omega arith)
 row-there (k ∷ u ∷ []) i h = absurd (omega arith)
@@ -34,7 +33,6 @@ row-there (k ∷ u ∷ c ∷ d ∷ xs) (suc i) h =
     cc (q 1, q 2, q 3)
 
 pub row-past : (xs : List ℕ) (i : ℕ) → length xs / 4 ≤ i → noRow ≡ rowAt xs i
-unfolding rowAt
 row-past xs i h = past (rowsIn xs) i (rw (rows-count xs) h)
   where
     past : (rs : List Row) (i : ℕ) → length rs ≤ i → noRow ≡ getD rs i noRow

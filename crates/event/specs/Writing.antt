@@ -43,7 +43,7 @@ rowsIn (k ∷ u ∷ c ∷ d ∷ xs) = row k u c d ∷ rowsIn xs
 abbrev pub noRow : Row
 noRow = row 0 0 0 0
 
-unfoldable pub rowAt : List ℕ → ℕ → Row
+abbrev pub rowAt : List ℕ → ℕ → Row
 rowAt xs i = getD (rowsIn xs) i noRow
 
 -- 20: the number of elements is not a multiple of four

@@ -1,4 +1,4 @@
-// The refusal numbers of a reading (document 01), 1 to 12.
+// The refusal numbers of document 01: of a reading 1 to 12, of a writing 20 to 24.
 
 // The event has too few or too many words.
 pub const SIZE: u32 = 1;
@@ -24,3 +24,13 @@ pub const DATA: u32 = 10;
 pub const REPEATED: u32 = 11;
 // More rows than room.
 pub const ROOM: u32 = 12;
+// The element count is not a multiple of four.
+pub const ELEMENTS: u32 = 20;
+// A kind, or the tag of a row of kind 1, that may not stand there; the rows end too early.
+pub const KIND: u32 = 21;
+// A field out of its range, or not the number it must be, or a repeated channel or GEO.
+pub const FIELD: u32 = 22;
+// More words than the dialect's largest event.
+pub const LARGE: u32 = 23;
+// More words than room.
+pub const WORDS: u32 = 24;

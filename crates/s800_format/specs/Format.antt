@@ -1,9 +1,11 @@
 -- The code's `Format` stands for a channel format of the layout. (The contracts of functions that no user calls.)
 -- Assumes nothing.
 use Prim.Native.Nat.{ℕ}
-use mathlib.Core.Bool.{true, false, cond}
+use mathlib.Core.Bool.{Bool, true, false, cond}
+use mathlib.Core.List.{map}
 use Rattle.event.specs.Channels.{others}
-use Rattle.s800_layout.specs.Event.{ChannelFormat}
+use Rattle.event.specs.Parser.{member}
+use Rattle.s800_layout.specs.Event.{ChannelFormat, opaque, opaques, tag}
 use Rattle.s800_format.specs.declared.Format.{Format}
 
 abbrev pub bitsOf : Format → ℕ
@@ -26,3 +28,7 @@ adcFormat base = record { kind = 6; base = base; wide = true; barred = 0xff00 }
 -- the energies of pairs
 abbrev pub pairFormat : Format
 pairFormat = record { kind = 6; base = 0; wide = false; barred = 0xffc0 }
+
+-- the tags of packets whose words stay opaque
+unfoldable pub opaqueTag : ℕ → Bool
+opaqueTag t = member t (map (λ k. tag (opaque k)) opaques)

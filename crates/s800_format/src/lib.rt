@@ -4,7 +4,7 @@ pub mod tag;
 use event::kind;
 ghost use mathlib.Core.Path.{_≡_};
 ghost use Rattle.s800_layout.specs.Layout.{pad};
-ghost use Rattle.s800_format.specs.Format.{timesFormat, energiesFormat, adcFormat, pairFormat};
+ghost use Rattle.s800_format.specs.Format.{timesFormat, energiesFormat, adcFormat, pairFormat, opaqueTag};
 
 // The channel words of a packet: the kind of their rows, the row channel of channel 0, whether the number below the channel has
 // 13 bits and not 12, and the channels not allowed, as a set of bits.
@@ -74,6 +74,21 @@ pub fn pair_energies() -> Format
         base: 0,
         wide: false,
         barred: 0xffc0,
+    }
+}
+
+// The tags of packets with opaque words.
+pub fn is_opaque(tag: u32) -> bool
+    ensures { λ r. ⌜ r ≡ opaqueTag tag ⌝ }
+{
+    match tag {
+        tag::FOCAL_PLANE_TIME
+        | tag::INTERMEDIATE_CRDC
+        | tag::TARGET_PIN
+        | tag::INTERMEDIATE_TRACK
+        | tag::INTERMEDIATE_PPAC
+        | tag::OBJECT_SCINTILLATOR => true,
+        _ => false,
     }
 }
 

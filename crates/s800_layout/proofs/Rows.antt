@@ -24,10 +24,10 @@ use Rattle.s800_layout.specs.Layout.{lowestFirst, stampRow, numberRow, d
 use Rattle.s800_layout.specs.Writing.{ofTag, atPacket, datumBelow, datumOf, datum, channelRows, pair, sampleOf, sample, samples, anode, registers, hitsContent, energiesContent, content, Header, headerOf, headerRow, header, packet, ownRow, chunksOf, stampOf, stampPacket, numberOf, numberPacket}
 use Rattle.s800_layout.proofs.Lengths.{form-back}
 
-codes-below : (kind channel bound : ℕ) → Codes any (datumBelow kind channel bound) (λ d. row kind 0 channel d ∷ []) (λ d. Passed (belowChecks 0 bound d))
+pub codes-below : (kind channel bound : ℕ) → Codes any (datumBelow kind channel bound) (λ d. row kind 0 channel d ∷ []) (λ d. Passed (belowChecks 0 bound d))
 codes-below kind channel bound = codes-row (ofKind kind) (λ r. r .datum) (row kind 0 channel) (belowChecks 22 bound) (λ d. eqb-refl kind) (λ d g. refl)
 
-codes-datum : (kind base : ℕ) (f : ChannelFormat) (seen : List ℕ) → Codes any (datum kind base f seen) (λ d. datumRow kind base d ∷ []) (ValidDatum f seen)
+pub codes-datum : (kind base : ℕ) (f : ChannelFormat) (seen : List ℕ) → Codes any (datum kind base f seen) (λ d. datumRow kind base d ∷ []) (ValidDatum f seen)
 codes-datum kind base f seen = codes-row (ofKind kind) (datumOf base) (datumRow kind base) (datumChecks 22 22 f seen) (λ d. eqb-refl kind) back
   where
     back : (d : Datum) → ValidDatum f seen d → datumOf base (datumRow kind base d) ≡ d
@@ -39,13 +39,13 @@ codes-channels : (kind base : ℕ) (f : ChannelFormat) → ((d : Datum) (r : Lis
 codes-channels kind base f other = same (codes-many channels (codes-datum kind base f) atPacket (λ st d g r. other d r) refl []) (λ xs g. g) (λ xs g. g)
     (λ xs g. prints-map (datumRow kind base) channels [] xs)
 
-codes-pair : (seen : List ℕ) → Codes any (pair seen) pairRows (ValidPair seen)
+pub codes-pair : (seen : List ℕ) → Codes any (pair seen) pairRows (ValidPair seen)
 codes-pair seen = same
     (codes-bind (λ x. x .energy) (codes-datum 6 0 pairEnergy seen) (λ e g. codes-map _ (λ x. x .time) (codes-below 5 (e .channel) (2 ^ pairEnergy .bits)) (λ t. refl))
     (λ e x g. ap (λ (y : Pair). y .energy) (g .1)))
     (λ x g. (g .0, g .1 .0)) (λ x g. (g .0, (g .1, refl))) (λ x g. refl)
 
-codes-sample : Codes any sample (λ s. sampleRow s ∷ []) (λ s. Passed (sampleChecks 0 s))
+pub codes-sample : Codes any sample (λ s. sampleRow s ∷ []) (λ s. Passed (sampleChecks 0 s))
 codes-sample = codes-row (ofKind 8) sampleOf sampleRow (sampleChecks 22) (λ s. tt) back
   where
     back : (s : Sample) → Passed (sampleChecks 0 s) → sampleOf (sampleRow s) ≡ s
@@ -57,16 +57,16 @@ codes-sample = codes-row (ofKind 8) sampleOf sampleRow (sampleChecks 22) (λ s. 
 abbrev samplesRows : Samples → List Row
 samplesRows s = row 7 0 0 (s .threshold) ∷ map sampleRow (s .samples)
 
-codes-samples : Codes (At (atKind 9)) samples samplesRows (λ s. Passed (belowChecks 0 (2 ^ 16) (s .threshold)) × All (λ x. Passed (sampleChecks 0 x)) (s .samples))
+pub codes-samples : Codes (At (atKind 9)) samples samplesRows (λ s. Passed (belowChecks 0 (2 ^ 16) (s .threshold)) × All (λ x. Passed (sampleChecks 0 x)) (s .samples))
 codes-samples = same
     (codes-bind (λ s. s .threshold) (codes-below 7 0 (2 ^ 16)) (λ t g. codes-map _ (λ s. s .samples) (codes-several (atKind 9) codes-sample (λ s g r. refl) refl) (λ xs. refl))
     (λ t s g. ap (λ (y : Samples). y .threshold) (g .1)))
     (λ s g. (g .0, g .1 .0)) (λ s g. (g .0, (g .1, refl))) (λ s g. ap (row 7 0 0 (s .threshold) ∷_) (each-map sampleRow (s .samples)))
 
-codes-anode : Codes any anode (λ a. anodeRow a ∷ []) (λ a. Passed (anodeChecks 0 a))
+pub codes-anode : Codes any anode (λ a. anodeRow a ∷ []) (λ a. Passed (anodeChecks 0 a))
 codes-anode = codes-row (ofKind 9) _ anodeRow (anodeChecks 22) (λ a. tt) (λ a g. refl)
 
-codes-registers : Codes any registers (λ h. registerRow h ∷ []) (λ h. Passed (registerChecks 0 h))
+pub codes-registers : Codes any registers (λ h. registerRow h ∷ []) (λ h. Passed (registerChecks 0 h))
 codes-registers = codes-row (ofKind 10) _ registerRow (registerChecks 22) (λ h. tt) (λ h g. refl)
 
 codes-hodoscope : (id : ℕ) → T (leb id hitsId) → Codes (At atPacket) (content hodoscope id) (contentRows hodoscope) (λ h. ValidContent hodoscope h × (idOf hodoscope h ≡ id))

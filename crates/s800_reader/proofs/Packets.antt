@@ -13,37 +13,15 @@ use Rattle.event.specs.Parser.{Result, ok, refuse, then, give, ended, filled, m
 use Rattle.event.proofs.Leads.{leads-trans}
 use Rattle.event.proofs.Loops.{leads-filled}
 use Rattle.event.proofs.Impossible.{impossible}
-use Rattle.s800_layout.specs.Event.{Opaque, focalPlaneTime, intermediateCrdc, targetPin, intermediateTrack, intermediatePpac, objectScintillator, Form, opaque, opaques, Content, Packet, tag, formOf}
+use Rattle.s800_layout.specs.Event.{Form, Content, Packet, tag, formOf}
 use Rattle.s800_layout.specs.Layout.{packetRows}
 use Rattle.s800_layout.specs.Reading.{allowedLength, content, packetContent, formWord, packet}
 use Rattle.s800_layout.proofs.Lengths.{form-back}
 use Rattle.s800_layout.proofs.Refusals.{content-ends}
 use Rattle.s800_reader.specs.declared.Opened.{Opened}
 use Rattle.s800_reader.specs.declared.Opened.the-variants.{Channels, Refused}
-use Rattle.s800_reader.specs.Opening.{opaqueTag, restOf, OpensAs, OpensPacket}
+use Rattle.s800_reader.specs.Opening.{restOf, OpensAs, OpensPacket}
 use Rattle.s800_reader.proofs.Extent.{too-short, too-long, body}
-
--- one of the numbers that f gives
-which : {A : Type 0} (f : A → ℕ) (t : ℕ) (xs : List A) → true ≡ member t (map f xs) → (a : A) × (t ≡ f a)
-which f t [] e = impossible cc
-which {A} f t (x ∷ xs) e = go (which f t xs) (eqb t (f x)) refl e
-  where
-    go : (true ≡ member t (map f xs) → (a : A) × (t ≡ f a)) → (b : Bool) → eqb t (f x) ≡ b → true ≡ b || member t (map f xs) → (a : A) × (t ≡ f a)
-    go ih true p q = (x, eqb-true t (f x) p)
-    go ih false p q = ih q
-
-pub opaque-form : (t : ℕ) → true ≡ opaqueTag t → (k : Opaque) × (t ≡ tag (opaque k))
-unfolding opaqueTag
-opaque-form t e = which (λ k. tag (opaque k)) t opaques e
-
-pub no-opaque : (t : ℕ) → false ≡ opaqueTag t → (k : Opaque) → t ≡ tag (opaque k) → ⊥
-unfolding opaqueTag
-no-opaque t e focalPlaneTime q = let c = rw q at e in impossible cc
-no-opaque t e intermediateCrdc q = let c = rw q at e in impossible cc
-no-opaque t e targetPin q = let c = rw q at e in impossible cc
-no-opaque t e intermediateTrack q = let c = rw q at e in impossible cc
-no-opaque t e intermediatePpac q = let c = rw q at e in impossible cc
-no-opaque t e objectScintillator q = let c = rw q at e in impossible cc
 
 -- what a packet holds fills it
 rest-ends : (f : Form) (ws : List ℕ) (start n : ℕ) → start + n ≤ length ws → 2 ≤ n → (q : Packet) (j : ℕ) (r : List ℕ) → restOf f ws start n ≡ ok q j r → T (ended r)

@@ -2,17 +2,16 @@
 -- Assumes nothing.
 use Prim.Native.Nat.{ℕ, _+_, _-_, _%_, _^_, _≤_, _<_}
 use mathlib.Core.Path.{_≡_}
-use mathlib.Core.Bool.{Bool}
-use mathlib.Core.List.{List, [], _∷_, map}
+use mathlib.Core.List.{List, [], _∷_}
 use lib.ListN.{length, getD, drop}
 use lib.Seq.{slice}
 use Rattle.event.specs.declared.Answer.{Answer}
 use Rattle.event.specs.declared.Answer.the-variants as answer
 use Rattle.event.specs.declared.Row.{Row}
-use Rattle.event.specs.Parser.{Result, refuse, _>>_, require, each, member}
+use Rattle.event.specs.Parser.{Result, refuse, _>>_, require, each}
 use Rattle.event.specs.Rows.{row}
 use Rattle.event.specs.Scanning.{Leads}
-use Rattle.s800_layout.specs.Event.{Form, crdc, opaque, opaques, Packet, samplesTag, tag}
+use Rattle.s800_layout.specs.Event.{Form, crdc, Packet, samplesTag, tag}
 use Rattle.s800_layout.specs.Layout.{packetRows}
 use Rattle.s800_layout.specs.Reading.{allowedLength, channelWords, packetContent, packet}
 use Rattle.s800_format.specs.declared.Format.{Format}
@@ -20,10 +19,6 @@ use Rattle.s800_reader.specs.declared.Opened.{Opened}
 use Rattle.s800_reader.specs.declared.Opened.the-variants.{Channels, Refused}
 use Rattle.s800_format.specs.Format.{formatOf, energiesFormat}
 use Rattle.s800_reader.specs.Channel.{channelRows}
-
--- the tags of packets whose words stay opaque
-unfoldable pub opaqueTag : ℕ → Bool
-opaqueTag t = member t (map (λ k. tag (opaque k)) opaques)
 
 -- a packet of n words at `start` lies within the words, after no more rows than words
 pub record PacketAt (ws : List ℕ) (start n count : ℕ) : Type 0 where

@@ -12,27 +12,12 @@ use crate::whole_packets::open_opaque;
 use crate::whole_packets::open_scintillator;
 use crate::word::word;
 use event::refusal;
+use s800_format::is_opaque;
 use s800_format::tag;
 ghost use Prim.Native.Nat.{_≤_, _<_};
-ghost use mathlib.Core.Path.{_≡_};
 ghost use lib.ListN.{length};
 ghost use denote.Ref.{now};
-ghost use Rattle.s800_reader.specs.Opening.{opaqueTag, OpensPacket};
-
-// The tags of packets with opaque words.
-fn is_opaque(tag: u32) -> bool
-    ensures { λ r. ⌜ r ≡ opaqueTag tag ⌝ }
-{
-    match tag {
-        tag::FOCAL_PLANE_TIME
-        | tag::INTERMEDIATE_CRDC
-        | tag::TARGET_PIN
-        | tag::INTERMEDIATE_TRACK
-        | tag::INTERMEDIATE_PPAC
-        | tag::OBJECT_SCINTILLATOR => true,
-        _ => false,
-    }
-}
+ghost use Rattle.s800_reader.specs.Opening.{OpensPacket};
 
 // Refusals 5 and 6; then the packet's own function goes on with 7.
 pub(crate) fn open_packet(words: &[u16], start: usize, rows: &mut [u32], count: usize) -> Opened

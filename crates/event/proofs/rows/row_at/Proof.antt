@@ -20,5 +20,5 @@ row-at-spec =
     (λ c. search needs)
     (λ c. search needs)
     (λ c. search needs)
-    (λ c. row-there _ _ (search needs))
-    (λ c. row-past _ _ (c .if1 .left)))
+    (λ c. row-there (c .before .before .before .before .before .args .rows .now) (c .before .before .before .before .before .args .at) (search needs))
+    (λ c. row-past (c .before .args .rows .now) (c .before .args .at) (c .if1 .left)))

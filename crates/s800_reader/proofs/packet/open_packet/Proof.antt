@@ -6,7 +6,8 @@ use borrow.Author.Tests.{ne-eqb}
 use Rattle.s800_layout.specs.Event.{Form, trigger, timeOfFlight, scintillator, ionChamber, crdc, hodoscope, objectPin, vmeAdc, opaque, tag, formOf}
 use Rattle.s800_reader.specs.declared.Opened.{Opened}
 use Rattle.s800_reader.specs.Opening.{OpensAs, OpensPacket}
-use Rattle.s800_reader.proofs.Packets.{opaque-form, no-opaque, packet-short, packet-long, packet-unknown, packet-known}
+use Rattle.s800_format.proofs.Opaques.{opaque-form, no-opaque}
+use Rattle.s800_reader.proofs.Packets.{packet-short, packet-long, packet-unknown, packet-known}
 use borrow.Author.Needs.{needs}
 use Rattle.s800_reader.proofs.packet.open_packet.Statement.{statement}
 use Rattle.s800_reader.proofs.packet.open_packet.Tie as tie

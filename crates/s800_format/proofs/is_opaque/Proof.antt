@@ -1,9 +1,9 @@
--- `packet::is_opaque` meets its contract. Assumes nothing.
+-- `is_opaque` meets its contract. Assumes nothing.
 use mathlib.Core.Logic.{⊎-elim, inl, inr}
 use borrow.Author.Tests.{ne-eqb}
-use Rattle.s800_reader.specs.Opening.{opaqueTag}
-use Rattle.s800_reader.proofs.packet.is_opaque.Statement.{statement}
-use Rattle.s800_reader.proofs.packet.is_opaque.Tie as tie
+use Rattle.s800_format.specs.Format.{opaqueTag}
+use Rattle.s800_format.proofs.is_opaque.Statement.{statement}
+use Rattle.s800_format.proofs.is_opaque.Tie as tie
 
 returns : tie.Need-returns
 unfolding opaqueTag

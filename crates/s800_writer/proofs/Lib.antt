@@ -1,0 +1,14 @@
+pub mod Faults
+pub mod Limits
+pub mod Datum
+pub mod Channels
+pub mod Singles
+pub mod Pairs
+pub mod Closing
+pub mod Packets
+pub mod Crdc
+pub mod Headers
+pub mod Heads
+pub mod FewWords
+pub mod Runs
+pub mod Event

@@ -1,0 +1,52 @@
+// Writes one event of dialect S, the S800 event of version 5 (document 01), from its rows.
+mod channel_packets;
+mod content;
+mod lay;
+mod other_packets;
+mod packet;
+mod part;
+mod row;
+
+use crate::lay::lay;
+use event::Answer;
+use event::StampOrder;
+use event::refusal;
+ghost use mathlib.Core.Path.{_≡_};
+ghost use lib.ListN.{length};
+ghost use denote.Ref.{now};
+ghost use Rattle.event.specs.Outcome.{answerOf, given, overlaid};
+ghost use Rattle.s800_layout.specs.Writing.{writingInto};
+
+// The largest event.
+const LARGEST: usize = 4096;
+
+// Writes the words of one event from its rows, four elements each. A refused writing leaves every word as it was.
+pub fn write(rows: &[u32], order: StampOrder, words: &mut [u16]) -> Answer
+    ensures answer { λ r. ⌜ r ≡ answerOf (writingInto (length (now (words .entry))) order (now (rows .entry))) ⌝ }
+    ensures words { λ _. ⌜ now (words .exit) ≡ overlaid (given (writingInto (length (now (words .entry))) order (now (rows .entry)))) (now (words .entry)) ⌝ }
+{
+    if rows.len() % 4 != 0 {
+        return Answer::Refused {
+            number: refusal::ELEMENTS,
+            place: 0,
+        };
+    }
+    let mut none: [u16; 0] = [];
+    let counted = lay(rows, order, &mut none);
+    let Answer::Accepted(count) = counted else {
+        return counted;
+    };
+    if LARGEST < count {
+        return Answer::Refused {
+            number: refusal::LARGE,
+            place: count,
+        };
+    }
+    if words.len() < count {
+        return Answer::Refused {
+            number: refusal::WORDS,
+            place: count,
+        };
+    }
+    lay(rows, order, words)
+}
