@@ -23,7 +23,7 @@ use Rattle.frs_layout.proofs.Event.{valuesOf, codes-event}
 codes-stamp : Codes any stamp (λ s. stampRow s ∷ []) (λ s. Passed (stampChecks 0 s))
 codes-stamp = codes-row (ofKind 16) _ stampRow (stampChecks 22) (λ s. tt) (λ s g. refl)
 
-codes-pattern : Codes any patternUnit patternRows (λ p. Passed (patternChecks 0 p))
+pub codes-pattern : Codes any patternUnit patternRows (λ p. Passed (patternChecks 0 p))
 codes-pattern = codes-row (ofKind 19) _ patternRow (patternChecks 22) (λ p. tt) (λ p g. refl)
 
 prints-scalers : (i : ℕ) (vs : List ℕ) → prints (λ j v. scalerRow j v ∷ []) nextIndex i vs ≡ scalerRowsFrom i vs
@@ -41,7 +41,7 @@ good-scalers : (i : ℕ) (vs : List ℕ) → Goods (λ j. GoodScaler) nextIndex 
 good-scalers i [] g = tt
 good-scalers i (v ∷ vs) g = (g .0, good-scalers (suc i) vs (g .1))
 
-codes-scaler : Codes any scaler scalerRows ValidScalers
+pub codes-scaler : Codes any scaler scalerRows ValidScalers
 codes-scaler = same
     (codes-bind length (codes-row (ofKind 17) _ scalerBlockRow (countChecks 22) (λ n. tt) (λ n g. refl))
     (λ n g. codes-times nextIndex (λ i. codes-row (ofKind 18) (λ r. r .datum) (scalerRow i) (scalerChecks 22) (λ v. tt) (λ v g. refl)) n 0) (λ n vs g. g .0))
@@ -84,7 +84,7 @@ codes-body (dataHeader g n c) = same (codes-map (λ vs. withData g vs c) valuesO
     print : (m : Module) → Raw m → prints (λ t v. valueRow g v ∷ []) channels [] (valuesOf m) ≡ bodyRows m
     print m e = rw (e .1) (prints-map (valueRow g) channels [] (valuesOf m))
 
-codes-module : (seen : List ℕ) → Codes any (oneModule seen) moduleRows (ValidModule seen)
+pub codes-module : (seen : List ℕ) → Codes any (oneModule seen) moduleRows (ValidModule seen)
 codes-module seen = same
     (codes-bind headerIn (codes-row startsModule headerOf firstRow (headerChecks seen) stands (λ h g. back h)) (λ h p. codes-body h) (λ h m e. e .0))
     to from print

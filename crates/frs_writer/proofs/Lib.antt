@@ -1,0 +1,10 @@
+pub mod Faults
+pub mod RowFaults
+pub mod Headers
+pub mod Parts
+pub mod Scalers
+pub mod PatternUnit
+pub mod Begun
+pub mod Values
+pub mod OneModule
+pub mod Modules

@@ -1,0 +1,65 @@
+// One pass over the rows, which stores a longword only where there is room: with no room it counts.
+use crate::begin::begin;
+use crate::fault::refuse;
+use crate::module::one_module;
+use event::Answer;
+use event::Part;
+use event::channels::with_channel;
+use event::rows::row_at;
+ghost use Prim.Native.Nat.{_*_, _≤_, min};
+ghost use mathlib.Core.Path.{_≡_};
+ghost use mathlib.Core.List.{[]};
+ghost use lib.ListN.{length, drop};
+ghost use denote.Ref.{now};
+ghost use Rattle.event.specs.Parser.{ended, many, each};
+ghost use Rattle.event.specs.Writing.{rowsIn};
+ghost use Rattle.event.specs.Scanning.{writingAll, ScannedBy, Writes};
+ghost use Rattle.frs_layout.specs.Layout.{moduleWords, words as wordsOf, geos};
+ghost use Rattle.frs_layout.specs.Writing.{oneModule, eventRowsUpTo};
+
+fn smaller(a: usize, b: usize) -> usize
+    ensures { λ r. ⌜ r ≡ min a b ⌝ }
+{
+    if a < b { a } else { b }
+}
+
+// The modules from row `first` on, each in the part of the words that starts at its place.
+fn modules(rows: &[u32], first: usize, words: &mut [u32], laid: usize) -> Part
+    requires { ⌜ (first ≤ length (rowsIn (now rows))) × (laid ≤ 4 * first) ⌝ }
+    ensures { λ r. ⌜ Writes 32 (each moduleWords) (many oneModule geos ended [] first (drop first (rowsIn (now (rows .entry))))) (rowsIn (now (rows .entry))) laid (now (words .entry)) r (now (words .exit)) ⌝ }
+{
+    let mut i = first;
+    let mut at = laid;
+    let mut seen: u32 = 0;
+    while i < rows.len() / 4 {
+        let start = smaller(at, words.len());
+        let given = one_module(rows, i, seen, &mut words[start..]);
+        match given {
+            Part::Refused { number, place } => return refuse(number, place),
+            Part::Done { next, count } => {
+                let row = row_at(rows, i);
+                seen = with_channel(seen, row.unit);
+                at += count;
+                i = next;
+            }
+        }
+    }
+    Part::Done { next: i, count: at }
+}
+
+// Lays the event's longwords, up to the first row that breaks a rule.
+pub(crate) fn lay(rows: &[u32], words: &mut [u32]) -> Answer
+    ensures { λ r. ⌜ ScannedBy (writingAll 32) wordsOf (eventRowsUpTo ended 0 (rowsIn (now (rows .entry)))) 0 (now (words .entry)) r (now (words .exit)) ⌝ }
+{
+    let begun = begin(rows, words);
+    match begun {
+        Part::Refused { number, place } => Answer::Refused { number, place },
+        Part::Done { next, count } => {
+            let written = modules(rows, next, words, count);
+            match written {
+                Part::Refused { number, place } => Answer::Refused { number, place },
+                Part::Done { next: _, count } => Answer::Accepted(count),
+            }
+        }
+    }
+}

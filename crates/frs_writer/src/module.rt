@@ -1,0 +1,76 @@
+// One module.
+use crate::fault::header_fault;
+use crate::fault::refuse;
+use crate::fault::value_fault;
+use crate::longword::longword;
+use event::Part;
+use event::channels::with_channel;
+use event::kind;
+use event::rows::row_at;
+use event::words::store_word32;
+ghost use Prim.Native.Nat.{_^_, _≤_, _<_};
+ghost use mathlib.Core.List.{[]};
+ghost use lib.ListN.{length, drop};
+ghost use denote.Ref.{now};
+ghost use Rattle.event.specs.Parser.{times, each};
+ghost use Rattle.event.specs.Writing.{rowsIn};
+ghost use Rattle.event.specs.Scanning.{Writes};
+ghost use Rattle.frs_layout.specs.Layout.{channels};
+ghost use Rattle.frs_layout.specs.Writing.{value};
+ghost use Rattle.frs_writer.specs.Parts.{valueWords, WritesModule};
+
+// The n values of the module with this GEO, from row `first` on, as longwords after its header.
+fn values(rows: &[u32], first: usize, geo: u32, n: u32, words: &mut [u32]) -> Part
+    requires { ⌜ (1 ≤ first) × (first ≤ length (rowsIn (now rows))) × (geo < 2 ^ 5) × (n ≤ 32) ⌝ }
+    ensures { λ r. ⌜ Writes 32 (each (valueWords geo)) (times (value geo) channels n [] first (drop first (rowsIn (now (rows .entry))))) (rowsIn (now (rows .entry))) 1 (now (words .entry)) r (now (words .exit)) ⌝ }
+{
+    let mut left = n;
+    let mut i = first;
+    let mut at: usize = 1;
+    let mut seen: u32 = 0;
+    while 0 < left {
+        let row = row_at(rows, i);
+        let number = value_fault(geo, seen, row);
+        if number != 0 {
+            return refuse(number, i);
+        }
+        let word = longword(geo, 0, row.channel * 0x0001_0000 + row.datum);
+        store_word32(words, at, word);
+        seen = with_channel(seen, row.channel);
+        left -= 1;
+        i += 1;
+        at += 1;
+    }
+    Part::Done { next: i, count: at }
+}
+
+// The module that begins at row `at`, at the front of the words. The set has the GEOs before it.
+pub(crate) fn one_module(rows: &[u32], at: usize, seen: u32, words: &mut [u32]) -> Part
+    requires { ⌜ at ≤ length (rowsIn (now rows)) ⌝ }
+    ensures { λ r. ⌜ WritesModule seen (rowsIn (now (rows .entry))) at (now (words .entry)) r (now (words .exit)) ⌝ }
+{
+    let row = row_at(rows, at);
+    let number = header_fault(seen, row);
+    if number != 0 {
+        return refuse(number, at);
+    }
+    if row.kind == kind::EMPTY_MODULE {
+        store_word32(words, 0, longword(row.unit, 6, 0));
+        return Part::Done {
+            next: at + 1,
+            count: 1,
+        };
+    }
+    store_word32(words, 0, longword(row.unit, 2, row.channel));
+    let given = values(rows, at + 1, row.unit, row.channel, words);
+    match given {
+        Part::Refused { number, place } => refuse(number, place),
+        Part::Done { next, count } => {
+            store_word32(words, count, longword(row.unit, 4, row.datum));
+            Part::Done {
+                next,
+                count: count + 1,
+            }
+        }
+    }
+}

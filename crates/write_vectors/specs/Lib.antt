@@ -1,0 +1,4 @@
+pub mod Lines
+pub mod Vectors
+pub mod Text
+pub mod Runs

@@ -1,0 +1,76 @@
+// The text that waits in a lent buffer, up to `at`, and its way to standard output.
+use crate::text::put_answer;
+use crate::text::put_bytes;
+use crate::text::put_run;
+use event::Answer;
+use libc::STDOUT_FILENO;
+ghost use Prim.Native.Nat.{_+_, _<_, _≤_};
+ghost use lib.ListN.{length};
+ghost use Rattle.write_vectors.specs.Runs.{Run};
+
+pub fn write_text(text: &[u8], at: usize)
+    requires { ⌜ at ≤ length (now text) ⌝ }
+{
+    io::write_all(STDOUT_FILENO, &text[..at]);
+}
+
+// Where the next line may be put: the text that waits is written out where the buffer is nearly full.
+fn make_room(text: &[u8], at: usize) -> usize
+    requires { ⌜ (at ≤ length (now text)) × (64 ≤ length (now text)) ⌝ }
+    ensures { λ r. ⌜ r + 64 ≤ length (now (text .entry)) ⌝ }
+{
+    if 64 <= text.len() - at {
+        return at;
+    }
+    write_text(text, at);
+    0
+}
+
+pub fn put_malformed(text: &mut [u8], at: usize) -> usize
+    requires { ⌜ (at ≤ length (now text)) × (64 ≤ length (now text)) ⌝ }
+    ensures { λ r. ⌜ r ≤ length (now (text .entry)) ⌝ }
+{
+    let start = make_room(text, at);
+    put_bytes(text, start, b"malformed\n")
+}
+
+// The answer, and the lent words as runs of equal words.
+pub fn put_written(text: &mut [u8], at: usize, answer: Answer, words: &[u32]) -> usize
+    requires { ⌜ (at ≤ length (now text)) × (64 ≤ length (now text)) ⌝ }
+    ensures { λ r. ⌜ r ≤ length (now (text .entry)) ⌝ }
+{
+    let start = make_room(text, at);
+    let end = put_answer(text, start, answer);
+    put_words(text, end, words)
+}
+
+fn put_words(text: &mut [u8], at: usize, words: &[u32]) -> usize
+    requires { ⌜ (at ≤ length (now text)) × (64 ≤ length (now text)) ⌝ }
+    ensures { λ r. ⌜ r ≤ length (now (text .entry)) ⌝ }
+{
+    let mut end = at;
+    let mut from = 0;
+    while from < words.len() {
+        let times = run_length(words, from);
+        let start = make_room(text, end);
+        end = put_run(text, start, times, words[from]);
+        from += times;
+    }
+    end
+}
+
+// How many words from `from` on are equal.
+fn run_length(words: &[u32], from: usize) -> usize
+    requires { ⌜ from < length (now words) ⌝ }
+    ensures { λ r. ⌜ Run (now (words .entry)) from r ⌝ }
+{
+    let word = words[from];
+    let mut times = 1;
+    while times < words.len() - from {
+        if words[from + times] != word {
+            return times;
+        }
+        times += 1;
+    }
+    times
+}
