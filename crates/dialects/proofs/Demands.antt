@@ -10,6 +10,7 @@ use Rattle.event.specs.declared.StampOrder.{StampOrder}
 use Rattle.event.specs.Outcome.{done, given}
 use Rattle.event.specs.Rows.{flat}
 use Rattle.event.specs.Demands.{InWidth}
+use Rattle.event.proofs.Trips.{in-room}
 use Rattle.event.proofs.Join.{Separate, join-iff, by-length, by-parser}
 use Rattle.s800_layout.specs.Event.{eventTag}
 use Rattle.s800_layout.specs.Layout.{version, packetsWords}
@@ -25,7 +26,7 @@ use Rattle.frs_layout.proofs.Rows as RowsF
 use Rattle.frs_layout.proofs.Reading as ReadingF
 use Rattle.frs_layout.proofs.Writing as WritingF
 use Rattle.frs_layout.proofs.Width as WidthF
-use Rattle.dialects.specs.Demands.{ReadingExact, ReadingInRoomExact, WritingExact, WrittenBack, ReadBack, AcceptableExact, RowsOfLayout, SameRuns}
+use Rattle.dialects.specs.Demands.{ReadingExact, ReadingInRoomExact, WritingExact, WritingInRoomExact, WrittenBack, ReadBack, AcceptableExact, RowsOfLayout, SameRuns}
 use Rattle.dialects.specs.Dialects.{Dialect, S, F, Event, Valid, words, rows, width, reading, AcceptableIn, rowsOf}
 
 pub reading-iff : ReadingExact
@@ -39,6 +40,10 @@ reading-in-room F room o = ReadingF.reading-in-room room
 pub writing-iff : WritingExact
 writing-iff S o = WritingS.writing-iff o
 writing-iff F o = WritingF.writing-iff
+
+pub writing-in-room : WritingInRoomExact
+writing-in-room S room o xs ws = in-room 24 room (writing-iff S o xs ws)
+writing-in-room F room o xs ws = in-room 24 room (writing-iff F o xs ws)
 
 pub written-back : WrittenBack
 written-back d o ws rs e = writing-iff d o (flat rs) ws .1 (rs, refl, reading-iff d o ws rs .0 e)

@@ -11,7 +11,7 @@ use Rattle.event.specs.Parser.{All}
 use Rattle.event.specs.Outcome.{done}
 use Rattle.event.specs.Rows.{flat}
 use Rattle.event.specs.Demands.{join}
-use Rattle.dialects.specs.Dialects.{Dialect, rows, reading, readingInto, writing, SomeEventIn, AcceptableIn, rowsOf}
+use Rattle.dialects.specs.Dialects.{Dialect, rows, reading, readingInto, writing, writingInto, SomeEventIn, AcceptableIn, rowsOf}
 
 -- Demand 2. A reading accepts exactly the words of valid events, and gives the event's rows.
 abbrev pub ReadingExact : Type 0
@@ -24,6 +24,10 @@ ReadingInRoomExact = (d : Dialect) (room : ℕ) (o : StampOrder) (ws : List ℕ)
 -- A writing accepts exactly the elements that are the rows of some valid event, and gives the event's words.
 abbrev pub WritingExact : Type 0
 WritingExact = (d : Dialect) (o : StampOrder) (xs ws : List ℕ) → (writing d o xs ≡ done ws) ↔ ((rs : List Row) × (flat rs ≡ xs) × SomeEventIn d o ws rs)
+
+-- The same into a buffer: exactly when there is also room for the words.
+abbrev pub WritingInRoomExact : Type 0
+WritingInRoomExact = (d : Dialect) (room : ℕ) (o : StampOrder) (xs ws : List ℕ) → (writingInto d room o xs ≡ done ws) ↔ (((rs : List Row) × (flat rs ≡ xs) × SomeEventIn d o ws rs) × (length ws ≤ room))
 
 -- What is read is written back,
 abbrev pub WrittenBack : Type 0

@@ -9,11 +9,11 @@ use Rattle.event.specs.Demands.{SomeEvent, Acceptable}
 use Rattle.s800_layout.specs.Event.{Event as EventS}
 use Rattle.s800_layout.specs.Layout.{Valid as ValidS, words as wordsS, rows as rowsS}
 use Rattle.s800_layout.specs.Reading.{reading as readingS, readingInto as readingIntoS}
-use Rattle.s800_layout.specs.Writing.{writing as writingS}
+use Rattle.s800_layout.specs.Writing.{writing as writingS, writingInto as writingIntoS}
 use Rattle.frs_layout.specs.Event.{Event as EventF}
 use Rattle.frs_layout.specs.Layout.{Valid as ValidF, words as wordsF, rows as rowsF}
 use Rattle.frs_layout.specs.Reading.{reading as readingF, readingInto as readingIntoF}
-use Rattle.frs_layout.specs.Writing.{writing as writingF}
+use Rattle.frs_layout.specs.Writing.{writing as writingF, writingInto as writingIntoF}
 
 pub data Dialect : Type 0 where
   S F : Dialect
@@ -54,6 +54,11 @@ readingInto F room o = readingIntoF room
 abbrev pub writing : Dialect → StampOrder → List ℕ → Outcome ℕ
 writing S o = writingS o
 writing F o = writingF
+
+-- into room for so many words: 24 last
+abbrev pub writingInto : Dialect → (room : ℕ) → StampOrder → List ℕ → Outcome ℕ
+writingInto S room o = writingIntoS room o
+writingInto F room o = writingIntoF room
 
 -- Demand 2: some valid event has these words and these rows.
 abbrev pub SomeEventIn : Dialect → StampOrder → List ℕ → List Row → Type 0

@@ -43,7 +43,7 @@ codes-row stands fields print checks may back = codes-element 21 fields _ print 
     (λ r p. (p .1 .1, same-row r (print (fields r)) (p .1 .0)))
     (λ a g. (back a g, rw (back a g) (may a, (row-refl (print a), g))))
 
-flat-in : (rs : List Row) → rowsIn (flat rs) ≡ rs
+pub flat-in : (rs : List Row) → rowsIn (flat rs) ≡ rs
 flat-in [] = refl
 flat-in (r ∷ rs) = ap (r ∷_) (flat-in rs)
 

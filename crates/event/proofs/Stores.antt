@@ -20,7 +20,7 @@ use Rattle.event.specs.Scanning.{storeRows, writingAll, ScannedBy, Scann
 use Rattle.event.proofs.Leads.{Taken, refused-scan, accepted-scan}
 use Rattle.event.proofs.WordStores.{words-laid}
 
-length-flat : (rs : List Row) → length (flat rs) ≡ length rs * 4
+pub length-flat : (rs : List Row) → length (flat rs) ≡ length rs * 4
 length-flat [] = refl
 length-flat (r ∷ rs) = omega (arith, length-flat rs)
 
