@@ -156,10 +156,10 @@ fn pattern_unit(words: &[u32], at: usize, rows: &mut [u32], count: usize) -> Par
 pub(crate) fn begin(words: &[u32], rows: &mut [u32]) -> Part
     ensures { λ r. ⌜ Begins (now (words .entry)) (now (rows .entry)) (now (rows .exit)) r ⌝ }
 {
-    if words.len() < 7 {
+    if words.len() < frs_format::SMALLEST_EVENT {
         return refuse(refusal::SIZE, 0);
     }
-    if 1062 < words.len() {
+    if frs_format::LARGEST_EVENT < words.len() {
         return refuse(refusal::SIZE, 0);
     }
     let wrong = stamp_fault(words);
