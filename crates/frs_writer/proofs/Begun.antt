@@ -22,10 +22,10 @@ use Rattle.event.proofs.Sequences.{codes-optionally}
 use Rattle.event.proofs.WritingTurns.{placed, Wrote, wrote, unwritten}
 use Rattle.frs_layout.specs.Event.{Stamp, PatternUnit, Event}
 use Rattle.frs_layout.specs.Layout.{stampWords, scalerWords, patternWords, moduleWords, words, stampRow, stampChecks, geos, largestEvent}
-use Rattle.frs_layout.specs.Writing.{stamp, scaler, patternUnit, atPattern, oneModule, eventRowsUpTo}
+use Rattle.frs_layout.specs.Writing.{stampOf, stamp, scaler, patternUnit, atPattern, oneModule, eventRowsUpTo}
 use Rattle.frs_layout.proofs.Rows.{codes-scaler, codes-pattern, codes-one}
 use Rattle.frs_layout.proofs.Width.{words-fit}
-use Rattle.frs_writer.specs.Faults.{stampOf, stampFault}
+use Rattle.frs_writer.specs.Faults.{stampFault}
 use Rattle.frs_writer.specs.Parts.{Begins}
 
 -- the longwords before the modules

@@ -15,8 +15,8 @@ use Rattle.event.specs.Writing.{ofKind, noRow}
 use Rattle.event.specs.Scanning.{storeWords, Writes}
 use Rattle.event.proofs.RowJudged.{row-taken, row-refused}
 use Rattle.frs_layout.specs.Layout.{patternWords, patternRow, patternChecks}
-use Rattle.frs_layout.specs.Writing.{patternUnit, atPattern}
-use Rattle.frs_writer.specs.Faults.{patternOf, patternFault}
+use Rattle.frs_layout.specs.Writing.{patternOf, patternUnit, atPattern}
+use Rattle.frs_writer.specs.Faults.{patternFault}
 use Rattle.frs_writer.proofs.Parts.{refused-part, done-part}
 
 next-row : (rs : List Row) (i : ℕ) → atPattern (drop i rs) ≡ ofKind 19 (getD rs i noRow)

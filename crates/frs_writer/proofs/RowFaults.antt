@@ -12,7 +12,8 @@ use Rattle.event.specs.Parser.{test, faultIn}
 use Rattle.event.specs.Writing.{sameRow, rowTests, ofKind}
 use Rattle.frs_layout.specs.Event.{scalerGeo, patternGeo}
 use Rattle.frs_layout.specs.Layout.{datumBits, stampRow, scalerBlockRow, scalerRow, patternRow, valueRow, stampChecks, countChecks, scalerChecks, patternChecks, geoChecks, valueChecks}
-use Rattle.frs_writer.specs.Faults.{stampOf, patternOf, valueOf, stampFault, blockFault, scalerFault, patternFault, geoFault, valueFieldFault, valueFault}
+use Rattle.frs_layout.specs.Writing.{stampOf, patternOf, valueOf}
+use Rattle.frs_writer.specs.Faults.{stampFault, blockFault, scalerFault, patternFault, geoFault, valueFieldFault, valueFault}
 use Rattle.frs_writer.specs.Parts.{SetOf}
 use Rattle.frs_writer.proofs.Faults.{one-fails, Judged, judged, found-first, seen-last}
 

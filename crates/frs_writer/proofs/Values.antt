@@ -17,8 +17,8 @@ use Rattle.event.proofs.ChannelLaws.{Blocked, blocked-more, seen-only}
 use Rattle.event.proofs.RowJudged.{row-taken, row-refused}
 use Rattle.event.proofs.WritingTurns.{counted, WritesOn, rows-done, rows-refused, rows-taken}
 use Rattle.frs_layout.specs.Layout.{longword, valueRow, valueChecks, channels}
-use Rattle.frs_layout.specs.Writing.{value}
-use Rattle.frs_writer.specs.Faults.{valueOf, valueFault}
+use Rattle.frs_layout.specs.Writing.{valueOf, value}
+use Rattle.frs_writer.specs.Faults.{valueFault}
 use Rattle.frs_writer.specs.Parts.{valueWords, SetOf}
 use Rattle.frs_writer.proofs.Parts.{one-more, no-more}
 use Rattle.frs_writer.proofs.RowFaults.{value-seen, value-fields}

@@ -19,8 +19,7 @@ ghost use Rattle.event.specs.Parser.{optionally, times, each, ifAny};
 ghost use Rattle.event.specs.Writing.{rowsIn};
 ghost use Rattle.event.specs.Scanning.{storeWords, Writes};
 ghost use Rattle.frs_layout.specs.Layout.{stampWords, scalerWords, patternWords};
-ghost use Rattle.frs_layout.specs.Writing.{scalerAt, nextIndex, scaler, patternUnit, atPattern};
-ghost use Rattle.frs_writer.specs.Faults.{stampOf, patternOf};
+ghost use Rattle.frs_layout.specs.Writing.{stampOf, patternOf, scalerAt, nextIndex, scaler, patternUnit, atPattern};
 ghost use Rattle.frs_writer.specs.Parts.{scalerWord, Begins};
 
 fn store_stamp(words: &mut [u32], row: Row)

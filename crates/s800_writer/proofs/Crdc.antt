@@ -14,9 +14,9 @@ use Rattle.event.specs.Words.{storeWord, belowChecks}
 use Rattle.event.specs.Scanning.{storeWords, Writes}
 use Rattle.event.specs.Writing.{atKind, noRow}
 use Rattle.event.proofs.WritingTurns.{placed, Wrote, wrote, unwritten, writes-part}
-use Rattle.s800_layout.specs.Event.{Anode, Samples, crdc, samplesTag, anodeTag}
+use Rattle.s800_layout.specs.Event.{crdc, samplesTag, anodeTag}
 use Rattle.s800_layout.specs.Layout.{framed, sampleWords, samplesWords, anodeWords, contentWords, anodeRow, anodeChecks}
-use Rattle.s800_layout.specs.Writing.{datumBelow, sample, samples, anode}
+use Rattle.s800_layout.specs.Writing.{datumBelow, sample, samples, anodeOf, anode}
 use Rattle.s800_layout.proofs.Rows.{codes-samples}
 use Rattle.s800_writer.specs.Rows.{limitsFault}
 use Rattle.s800_writer.specs.Packets.{closed}
@@ -27,9 +27,6 @@ use Rattle.s800_writer.proofs.Singles.{one-taken, one-refused}
 
 -- the anode, of one row, in its inner packet at word `at`
 module _ (rs : List Row) (i : ℕ) {r : Row} (e : r ≡ getD rs i noRow) where
-  abbrev anodeOf : Row → Anode
-  anodeOf r = record { energy = r .channel; time = r .datum }
-
   pub anode-refused : {n : ℕ} → n ≡ limitsFault 9 0 65535 65535 r → (n ≡ 0 → ⊥) → anode i (drop i rs) ≡ refuse n i
   anode-refused = one-refused 9 0 65535 65535 anodeOf anodeRow (anodeChecks 22) anode-fault refl (λ a. (tt, (tt, tt))) rs i e
 

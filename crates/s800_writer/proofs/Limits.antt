@@ -20,7 +20,7 @@ use Rattle.event.proofs.RowCodes.{same-row, row-refl}
 use Rattle.event.proofs.RowsIn.{rows-count}
 use Rattle.event.proofs.RowJudged.{rows-from, rows-over}
 use Rattle.s800_layout.specs.Layout.{sampleRow, anodeRow, registerRow, stampRow, numberRow, sampleChecks, anodeChecks, registerChecks, stampChecks, numberChecks}
-use Rattle.s800_layout.specs.Writing.{sampleOf, stampOf, numberOf}
+use Rattle.s800_layout.specs.Writing.{sampleOf, anodeOf, registersOf, stampOf, numberOf}
 use Rattle.s800_writer.specs.Rows.{limitsFault, timeFault}
 
 -- a row of another kind, or the end of the rows
@@ -138,13 +138,13 @@ sample-fault r = by-limits 8 511 255 1023 sampleOf sampleRow (sampleChecks 22) r
     (fields-of r e refl p refl, (omega tests, (omega tests, (omega tests, (omega tests, tt))))))
     (λ e q p. (omega (tests, p .0), omega (tests, p .1 .1 .0), omega (tests, p .1 .1 .1 .0)))
 
-pub anode-fault : (r : Row) → faultIn (rowTests (ofKind 9) (λ r. record { energy = r .channel; time = r .datum }) anodeRow (anodeChecks 22) r) ≡ limitsFault 9 0 65535 65535 r
-anode-fault r = by-limits 9 0 65535 65535 (λ r. record { energy = r .channel; time = r .datum }) anodeRow (anodeChecks 22) r (refl, (refl, tt))
+pub anode-fault : (r : Row) → faultIn (rowTests (ofKind 9) anodeOf anodeRow (anodeChecks 22) r) ≡ limitsFault 9 0 65535 65535 r
+anode-fault r = by-limits 9 0 65535 65535 anodeOf anodeRow (anodeChecks 22) r (refl, (refl, tt))
     (λ e a b c. let p : r .unit ≡ 0 = omega arith in (fields-of r e p refl refl, (omega tests, (omega tests, tt))))
     (λ e q p. let a : r .unit ≡ 0 = cc in (omega arith, omega (tests, p .0), omega (tests, p .1 .0)))
 
-pub hits-fault : (r : Row) → faultIn (rowTests (ofKind 10) (λ r. record { a = r .unit; b = r .channel; time = r .datum }) registerRow (registerChecks 22) r) ≡ limitsFault 10 65535 65535 65535 r
-hits-fault r = by-limits 10 65535 65535 65535 (λ r. record { a = r .unit; b = r .channel; time = r .datum }) registerRow (registerChecks 22) r (refl, (refl, (refl, tt)))
+pub hits-fault : (r : Row) → faultIn (rowTests (ofKind 10) registersOf registerRow (registerChecks 22) r) ≡ limitsFault 10 65535 65535 65535 r
+hits-fault r = by-limits 10 65535 65535 65535 registersOf registerRow (registerChecks 22) r (refl, (refl, (refl, tt)))
     (λ e a b c. (fields-of r e refl refl refl, (omega tests, (omega tests, (omega tests, tt)))))
     (λ e q p. (omega (tests, p .0), omega (tests, p .1 .0), omega (tests, p .1 .1 .0)))
 

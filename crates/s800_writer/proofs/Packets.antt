@@ -22,9 +22,9 @@ use Rattle.event.proofs.WritingTurns.{writes-part, writes-as, writes-refused}
 use Rattle.s800_format.specs.declared.Format.{Format}
 use Rattle.s800_format.specs.Format.{formatOf, timesFormat, energiesFormat, adcFormat}
 use Rattle.s800_format.proofs.Formats.{trigger-format, flight-format, energies-format, adc-format}
-use Rattle.s800_layout.specs.Event.{Datum, Registers, energies, hits, Form, trigger, timeOfFlight, ionChamber, hodoscope, objectPin, vmeAdc, Opaque, opaque, Content, energiesTag, tag, hitsId, patternBound, ChannelFormat, triggerTime, flightTime, energy16, adcEnergy}
+use Rattle.s800_layout.specs.Event.{Datum, energies, hits, Form, trigger, timeOfFlight, ionChamber, hodoscope, objectPin, vmeAdc, Opaque, opaque, Content, energiesTag, tag, hitsId, patternBound, ChannelFormat, triggerTime, flightTime, energy16, adcEnergy}
 use Rattle.s800_layout.specs.Layout.{framed, channelWord, datumWord, registerWords, contentWords, packetWords, datumRow, hodoscopeBase, adcBase, registerRow, datumChecks, registerChecks}
-use Rattle.s800_layout.specs.Writing.{atPacket, datumOf, channelRows, content, registers, datumBelow}
+use Rattle.s800_layout.specs.Writing.{atPacket, datumOf, channelRows, content, registersOf, registers, datumBelow}
 use Rattle.s800_writer.specs.Rows.{limitsFault, datumFault, datumWords, wordAlone}
 use Rattle.s800_writer.specs.Packets.{closed, WritesPacket}
 use Rattle.s800_writer.proofs.Closing.{closed-writes}
@@ -131,18 +131,15 @@ module _ (rs : List Row) (i : ℕ) where
 
 -- the hits, of one row
 module _ (rs : List Row) (i : ℕ) {r : Row} (e : r ≡ getD rs i noRow) where
-  abbrev hitsOf : Row → Registers
-  hitsOf r = record { a = r .unit; b = r .channel; time = r .datum }
-
   pub hits-refused : {n : ℕ} → n ≡ limitsFault 10 65535 65535 65535 r → (n ≡ 0 → ⊥) → registers i (drop i rs) ≡ refuse n i
-  hits-refused = one-refused 10 65535 65535 65535 hitsOf registerRow (registerChecks 22) hits-fault refl (λ a. (tt, (tt, (tt, tt)))) rs i e
+  hits-refused = one-refused 10 65535 65535 65535 registersOf registerRow (registerChecks 22) hits-fault refl (λ a. (tt, (tt, (tt, tt)))) rs i e
 
   pub hits-inside : 0 ≡ limitsFault 10 65535 65535 65535 r → i < length rs
-  hits-inside f = one-taken 10 65535 65535 65535 hitsOf registerRow (registerChecks 22) hits-fault refl (λ a. (tt, (tt, (tt, tt)))) rs i e f .0
+  hits-inside f = one-taken 10 65535 65535 65535 registersOf registerRow (registerChecks 22) hits-fault refl (λ a. (tt, (tt, (tt, tt)))) rs i e f .0
 
   pub hits-taken : {b b₁ b₂ b₃ : List ℕ} → 0 ≡ limitsFault 10 65535 65535 65535 r → 1 ≤ i → b₁ ≡ storeWord 16 b 3 (r .unit) → b₂ ≡ storeWord 16 b₁ 4 (r .channel) → b₃ ≡ storeWord 16 b₂ 5 (r .datum)
       → Writes 16 registerWords (registers i (drop i rs)) rs 3 b (Done (i + 1) 6) b₃
   hits-taken f low p q s =
-      let t = one-taken 10 65535 65535 65535 hitsOf registerRow (registerChecks 22) hits-fault refl (λ a. (tt, (tt, (tt, tt)))) rs i e f in
+      let t = one-taken 10 65535 65535 65535 registersOf registerRow (registerChecks 22) hits-fault refl (λ a. (tt, (tt, (tt, tt)))) rs i e f in
       let l = t .0 in
       rw (t .1) (record { scanned = record { answered = refl; stored = s ∙ rw (q, p) }; within = (omega arith, omega arith) })
