@@ -12,15 +12,16 @@ use Rattle.event.specs.declared.Part.{Part}
 use Rattle.event.specs.declared.Part.the-variants.{Done, Refused}
 use Rattle.event.specs.declared.Row.{Row}
 use Rattle.event.specs.Parser.{ok, ended, _>>=_, give, many, each}
-use Rattle.event.specs.Channels.{insert}
+use Rattle.event.specs.Channels.{insert, Blocked}
 use Rattle.event.specs.Writing.{noRow}
 use Rattle.event.specs.Scanning.{storeWords, Writes}
-use Rattle.event.proofs.ChannelLaws.{Blocked, blocked-more, seen-only}
+use Rattle.event.proofs.ChannelLaws.{blocked-more}
 use Rattle.event.proofs.Many.{many-step, many-stop}
 use Rattle.event.proofs.RowJudged.{rows-from}
 use Rattle.event.proofs.Turns.{upToStop}
-use Rattle.event.proofs.WordStores.{in-part, part-lent, part-back, part-length}
-use Rattle.event.proofs.WritingTurns.{WritesOn, rows-done, rows-refused, rows-taken, placed, Wrote, wrote, unwritten}
+use Rattle.event.proofs.WordStores.{length-words, part-written}
+use Rattle.event.proofs.Ends.{placed}
+use Rattle.event.proofs.WritingTurns.{WritesOn, rows-done, rows-refused, rows-taken, Wrote, wrote, unwritten}
 use Rattle.frs_layout.specs.Event.{Module, empty, withData, geoOf}
 use Rattle.frs_layout.specs.Layout.{valueWord, footerWord, moduleWords, valueRow, emptyRow, moduleRow, moduleRows, geos, ValidModule}
 use Rattle.frs_layout.specs.Writing.{oneModule}
@@ -45,10 +46,6 @@ geo-of-row : (m : Module) (l : List Row) {r : Row} {l′ : List Row} → moduleR
 geo-of-row (empty g) l {r} q = let u : emptyRow g ≡ r = cc in ap (λ (x : Row). x .unit) u
 geo-of-row (withData g vs c) l {r} q = let u : moduleRow g (length vs) c ≡ r = cc in ap (λ (x : Row). x .unit) u
 
--- the words after a part of them came back
-pub part-same : (b part : List ℕ) {start : ℕ} → start ≤ length b → length part ≡ length (take (length b - start) (drop start b)) → length (putMid start (length b - start) b part) ≡ length b
-part-same b part {start} h l = rw (part-back start b part) (part-length start b part h (l ∙ ap length (part-lent start b)))
-
 module _ {rs : List Row} {set first laid i k : ℕ} {b₀ b : List ℕ} (h : Modules rs set first laid b₀ i k b) where
   abbrev Written : Part → List ℕ → Type 0
   Written = Writes 32 (each moduleWords) (many oneModule geos ended [] first (drop first rs)) rs laid b₀
@@ -65,7 +62,7 @@ module _ {rs : List Row} {set first laid i k : ℕ} {b₀ b : List ℕ} (h : Mod
       lent = take (length b - start) (drop start b)
 
       here : Writes 32 moduleWords (oneModule (h .state) i (drop i rs)) rs 0 lent given part
-      here = w .writes (h .state) (record { holds = seen-only (h .holds) })
+      here = w .writes (h .state) (h .holds)
 
       pub module-refused : {n p : ℕ} {r : Part} (after : List ℕ) → given ≡ Refused n p → r ≡ Refused n p → Written r after
       module-refused after q z = rw z (rows-refused 32 h more after (unwritten 32 moduleWords (oneModule (h .state) i (drop i rs)) ((rw q at here) .scanned)))
@@ -86,14 +83,12 @@ module _ {rs : List Row} {set first laid i k : ℕ} {b₀ b : List ℕ} (h : Mod
             rows-there (empty g) p = omega arith
             rows-there (withData g vs c) p = omega arith
 
-        pub module-taken : {r : Row} {set′ : ℕ} → length part ≡ length (take (length b - start) (drop start b)) → r ≡ getD rs i noRow → set′ ≡ insert set (r .unit % 32)
-            → Modules rs set′ first laid b₀ j (k + n) (putMid start (length b - start) b part)
-        module-taken {r} l e s =
+        pub module-taken : {r : Row} {set′ : ℕ} → r ≡ getD rs i noRow → set′ ≡ insert set (r .unit % 32) → Modules rs set′ first laid b₀ j (k + n) (putMid start (length b - start) b part)
+        module-taken {r} e s =
             let t = these in
             let m = t .value in
             let v = codes-module (h .state) .sound i (drop i rs) m j (t .input) (t .parsed) in
             let g : geoOf m ≡ r .unit = geo-of-row m (t .input) (sym (v .1) ∙ rows-from rs i below ∙ ap (_∷ drop (i + 1) rs) (sym e)) in
             let low : r .unit % 32 ≡ geoOf m = omega (arith, ltb→lt, v .0 .0 .0) in
-            let p : part ≡ storeWords 32 (drop start b) 0 (moduleWords m) = t .stored ∙ ap (λ (l : List ℕ). storeWords 32 l 0 (moduleWords m)) (part-lent start b) in
-            rows-taken 32 h more (t .parsed ∙ ap (ok m j) (to .0)) (rw (s, low) (blocked-more (geoOf m) (h .holds))) (to .2) (fits .2) (omega (arith, t .counted))
-            (part-back start b part ∙ ap (take start b ++_) p ∙ in-part 32 (moduleWords m) b k start st) (part-same b part (omega arith) l)
+            let words : putMid start (length b - start) b part ≡ storeWords 32 b k (moduleWords m) = part-written 32 (moduleWords m) b k st refl (t .stored) refl in
+            rows-taken 32 h more (t .parsed ∙ ap (ok m j) (to .0)) (rw (s, low) (blocked-more (geoOf m) (h .holds))) (to .2) (fits .2) (omega (arith, t .counted)) words (ap length words ∙ length-words 32 (moduleWords m) b k)

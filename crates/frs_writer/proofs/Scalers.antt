@@ -14,14 +14,15 @@ use Rattle.event.specs.Writing.{rowWith, ofKind, noRow}
 use Rattle.event.specs.Scanning.{storeWords, Writes}
 use Rattle.event.proofs.Elements.{each-map, map-self}
 use Rattle.event.proofs.RowJudged.{rows-from, row-taken, row-refused}
-use Rattle.event.proofs.WritingTurns.{counted, WritesOn, rows-done, rows-refused, rows-taken, placed, Wrote, wrote, unwritten}
+use Rattle.event.proofs.Ends.{placed}
+use Rattle.event.proofs.WritingTurns.{counted, WritesOn, rows-done, rows-refused, rows-taken, Wrote, wrote, unwritten, writes-refused, writes-done}
 use Rattle.frs_layout.specs.Event.{scalerGeo, scalerEnd}
 use Rattle.frs_layout.specs.Layout.{headerWord, scalerWords, scalerRow, scalerRowsFrom, scalerBlockRow, countChecks, scalerChecks}
 use Rattle.frs_layout.specs.Writing.{scalerAt, nextIndex, scaler}
 use Rattle.frs_layout.proofs.Rows.{codes-scaler}
 use Rattle.frs_writer.specs.Faults.{blockFault, scalerFault}
 use Rattle.frs_writer.specs.Parts.{scalerWord}
-use Rattle.frs_writer.proofs.Parts.{refused-part, done-part, block-stored, one-more, no-more}
+use Rattle.frs_writer.proofs.Parts.{block-stored, one-more, no-more}
 
 -- `index` of n scalers are stored
 abbrev Stored : (n index : ℕ) → ℕ × ℕ → Type 0
@@ -67,7 +68,7 @@ module _ (rs : List Row) (b : List ℕ) {r : Row} (e : r ≡ getD rs 1 noRow) wh
   unfolding blockFault
   block-refused after f z q =
       let u = row-refused (ofKind 17) (λ r. r .channel) scalerBlockRow (countChecks 22) refl (λ n. (tt, (tt, tt))) rs 1 e f z in
-      refused-part scalerWords after q (rw u)
+      writes-refused 32 scalerWords (rw u) q
 
   module _ (f : 0 ≡ blockFault r) where
     block-taken : (1 < length rs) × (rowWith (ofKind 17) (λ r. r .channel) scalerBlockRow (countChecks 22) 1 (drop 1 rs) ≡ ok (r .channel) 2 (drop 2 rs))
@@ -85,7 +86,7 @@ module _ (rs : List Row) (b : List ℕ) {r : Row} (e : r ≡ getD rs 1 noRow) wh
 
     module _ {b₁ b₂ : List ℕ} {given : Part} (s : Writes 32 (each scalerWord) values rs 5 b₁ given b₂) where
       pub scalers-refused : {m p : ℕ} {part : Part} (after : List ℕ) → given ≡ Refused m p → part ≡ Refused m p → BlockWritten part after
-      scalers-refused after q z = refused-part scalerWords after z (block-is ∙ unwritten 32 (each scalerWord) values ((rw q at s) .scanned))
+      scalers-refused after q z = writes-refused 32 scalerWords (block-is ∙ unwritten 32 (each scalerWord) values ((rw q at s) .scanned)) z
 
       module _ {j k : ℕ} (q : given ≡ Done j k) where
         these : Wrote 32 (each scalerWord) values 5 b₁ j k b₂
@@ -106,5 +107,5 @@ module _ (rs : List Row) (b : List ℕ) {r : Row} (e : r ≡ getD rs 1 noRow) wh
             let t = these in
             let vs = t .value in
             let same : each scalerWord vs ≡ vs = each-map (λ (x : ℕ). x) vs ∙ map-self vs in
-            done-part scalerWords (block-is ∙ t .parsed) (omega (arith, size .3, length-append vs (scalerEnd ∷ [])))
+            writes-done 32 scalerWords (block-is ∙ t .parsed) refl (omega (arith, size .3, length-append vs (scalerEnd ∷ [])))
             (block-stored b 4 (headerWord scalerGeo (length vs)) vs scalerEnd (first ∙ ap (λ (n : ℕ). storeWord 32 b 4 (headerWord scalerGeo n)) (sym (size .0))) (t .stored ∙ ap (storeWords 32 b₁ 5) same) (size .3) last) (size .2) (omega (arith, size .1, size .3))

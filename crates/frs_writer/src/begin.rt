@@ -1,7 +1,6 @@
 // The event's first blocks: the stamp, the scaler, the pattern unit where there is one.
 use crate::fault::block_fault;
 use crate::fault::pattern_fault;
-use crate::fault::refuse;
 use crate::fault::scaler_fault;
 use crate::fault::stamp_fault;
 use crate::longword::halves;
@@ -9,6 +8,7 @@ use crate::longword::store_four;
 use event::Part;
 use event::Row;
 use event::kind;
+use event::refuse_part;
 use event::rows::row_at;
 use event::words::store_word32;
 ghost use Prim.Native.Nat.{_+_, _*_, _^_, _≤_, _<_};
@@ -44,7 +44,7 @@ fn scalers(rows: &[u32], n: u32, words: &mut [u32]) -> Part
         let row = row_at(rows, i);
         let number = scaler_fault(index, row);
         if number != 0 {
-            return refuse(number, i);
+            return refuse_part(number, i);
         }
         store_word32(words, at, row.datum);
         index += 1;
@@ -62,12 +62,12 @@ fn scaler(rows: &[u32], words: &mut [u32]) -> Part
     let row = row_at(rows, 1);
     let number = block_fault(row);
     if number != 0 {
-        return refuse(number, 1);
+        return refuse_part(number, 1);
     }
     store_word32(words, 4, frs_format::SCALER_HEADER + row.channel);
     let scaled = scalers(rows, row.channel, words);
     match scaled {
-        Part::Refused { number, place } => refuse(number, place),
+        Part::Refused { number, place } => refuse_part(number, place),
         Part::Done { next, count } => {
             store_word32(words, count, frs_format::SCALER_END);
             Part::Done {
@@ -105,7 +105,7 @@ fn pattern_unit(rows: &[u32], at: usize, words: &mut [u32], count: usize) -> Par
     }
     let number = pattern_fault(row);
     if number != 0 {
-        return refuse(number, at);
+        return refuse_part(number, at);
     }
     store_pattern(words, count, row);
     Part::Done {
@@ -121,12 +121,12 @@ pub(crate) fn begin(rows: &[u32], words: &mut [u32]) -> Part
     let row = row_at(rows, 0);
     let number = stamp_fault(row);
     if number != 0 {
-        return refuse(number, 0);
+        return refuse_part(number, 0);
     }
     store_stamp(words, row);
     let scaled = scaler(rows, words);
     match scaled {
-        Part::Refused { number, place } => refuse(number, place),
+        Part::Refused { number, place } => refuse_part(number, place),
         Part::Done { next, count } => pattern_unit(rows, next, words, count),
     }
 }

@@ -10,12 +10,12 @@ use lib.ListN.{length, getD, drop}
 use borrow.Author.Tests.{ltb-true, leb-true, ne-eqb}
 use Rattle.event.specs.declared.Part.the-variants.{Done, Refused}
 use Rattle.event.specs.declared.Row.{Row}
-use Rattle.event.specs.Channels.{present, insert}
+use Rattle.event.specs.Channels.{present, insert, Blocked}
 use Rattle.event.specs.Parser.{ok, refuse, each}
 use Rattle.event.specs.Words.{storeWord}
 use Rattle.event.specs.Scanning.{Writes}
 use Rattle.event.specs.Writing.{ofKind, noRow}
-use Rattle.event.proofs.ChannelLaws.{Blocked, blocked-more}
+use Rattle.event.proofs.ChannelLaws.{blocked-more}
 use Rattle.event.proofs.Impossible.{impossible}
 use Rattle.event.proofs.RowJudged.{row-taken, row-refused}
 use Rattle.event.proofs.Turns.{upToStop}

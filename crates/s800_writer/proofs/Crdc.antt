@@ -13,7 +13,8 @@ use Rattle.event.specs.Rows.{row}
 use Rattle.event.specs.Words.{storeWord, belowChecks}
 use Rattle.event.specs.Scanning.{storeWords, Writes}
 use Rattle.event.specs.Writing.{atKind, noRow}
-use Rattle.event.proofs.WritingTurns.{placed, Wrote, wrote, unwritten, writes-part}
+use Rattle.event.proofs.Ends.{placed}
+use Rattle.event.proofs.WritingTurns.{Wrote, wrote, unwritten, writes-part, writes-done}
 use Rattle.s800_layout.specs.Event.{crdc, samplesTag, anodeTag}
 use Rattle.s800_layout.specs.Layout.{framed, sampleWords, samplesWords, anodeWords, contentWords, anodeRow, anodeChecks}
 use Rattle.s800_layout.specs.Writing.{datumBelow, sample, samples, anodeOf, anode}
@@ -41,7 +42,7 @@ module _ (rs : List Row) (i : ℕ) {r : Row} (e : r ≡ getD rs i noRow) where
       let three : at + 3 ≡ at + 2 + 1 = omega arith in
       let four : at + 4 ≡ at + 2 + 2 = omega arith in
       closed-writes anodeWords at anodeTag (anode i (drop i rs))
-      (rw (t .1, d) (record { scanned = record { answered = ap (Done (i + 1)) four; stored = s ∙ ap (λ (n : ℕ). storeWord 16 b₁ n (r .datum)) three ∙ ap (λ (l : List ℕ). storeWord 16 l (at + 2 + 1) (r .datum)) q }; within = (omega arith, omega arith) }))
+      (writes-done 16 anodeWords (t .1) d four (s ∙ ap (λ (n : ℕ). storeWord 16 b₁ n (r .datum)) three ∙ ap (λ (l : List ℕ). storeWord 16 l (at + 2 + 1) (r .datum)) q) (omega arith) (omega arith))
       p′ c
 
 -- the threshold's row, and the samples after it

@@ -18,7 +18,7 @@ use Rattle.event.proofs.ChannelLaws.{blocked-none}
 use Rattle.event.proofs.Elements.{each-map, map-self}
 use Rattle.event.proofs.Leads.{then-then}
 use Rattle.event.proofs.RowJudged.{row-taken, row-refused}
-use Rattle.event.proofs.WritingTurns.{writes-part, writes-as, writes-refused}
+use Rattle.event.proofs.WritingTurns.{writes-part, writes-as, writes-refused, writes-done}
 use Rattle.s800_format.specs.declared.Format.{Format}
 use Rattle.s800_format.specs.Format.{formatOf, timesFormat, energiesFormat, adcFormat}
 use Rattle.s800_format.proofs.Formats.{trigger-format, flight-format, energies-format, adc-format}
@@ -127,7 +127,7 @@ module _ (rs : List Row) (i : ℕ) where
         let l = t .0 in
         let z : r .channel - 0 ≡ r .channel = omega arith in
         let u : w ≡ datumWord energy16 (datumOf 0 r) = (rw q at v) ∙ rw z in
-        rw (t .1, two) (record { scanned = record { answered = refl; stored = s ∙ rw u }; within = (omega arith, omega arith) })
+        writes-done 16 (contentWords objectPin) (t .1) (rw two) refl (s ∙ rw u) (omega arith) (omega arith)
 
 -- the hits, of one row
 module _ (rs : List Row) (i : ℕ) {r : Row} (e : r ≡ getD rs i noRow) where
@@ -142,4 +142,4 @@ module _ (rs : List Row) (i : ℕ) {r : Row} (e : r ≡ getD rs i noRow) where
   hits-taken f low p q s =
       let t = one-taken 10 65535 65535 65535 registersOf registerRow (registerChecks 22) hits-fault refl (λ a. (tt, (tt, (tt, tt)))) rs i e f in
       let l = t .0 in
-      rw (t .1) (record { scanned = record { answered = refl; stored = s ∙ rw (q, p) }; within = (omega arith, omega arith) })
+      writes-done 16 registerWords (t .1) refl refl (s ∙ rw (q, p)) (omega arith) (omega arith)

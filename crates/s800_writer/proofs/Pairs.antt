@@ -10,13 +10,13 @@ use lib.ListN.{length, getD, drop}
 use borrow.Author.Tests.{ltb-true}
 use Rattle.event.specs.declared.Part.the-variants.{Refused}
 use Rattle.event.specs.declared.Row.{Row}
-use Rattle.event.specs.Channels.{insert}
+use Rattle.event.specs.Channels.{insert, Blocked}
 use Rattle.event.specs.Parser.{ok, refuse, faultIn, many, each}
 use Rattle.event.specs.Rows.{row}
 use Rattle.event.specs.Words.{storeWord, belowChecks}
 use Rattle.event.specs.Scanning.{storeWords, Writes}
 use Rattle.event.specs.Writing.{rowTests, ofKind, noRow}
-use Rattle.event.proofs.ChannelLaws.{Blocked, blocked-more}
+use Rattle.event.proofs.ChannelLaws.{blocked-more}
 use Rattle.event.proofs.RowJudged.{row-taken, row-refused}
 use Rattle.event.proofs.Turns.{upToStop}
 use Rattle.event.proofs.WritingTurns.{WritesOn, run-refused, run-taken}

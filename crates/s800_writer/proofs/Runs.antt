@@ -19,7 +19,8 @@ use Rattle.event.proofs.Many.{many-step, many-stop}
 use Rattle.event.proofs.RowJudged.{rows-from, rows-over}
 use Rattle.event.proofs.Turns.{upToStop}
 use Rattle.event.proofs.WordStores.{length-words, part-written}
-use Rattle.event.proofs.WritingTurns.{WritesOn, placed, Wrote, wrote, unwritten, rows-done, rows-refused, rows-taken}
+use Rattle.event.proofs.Ends.{placed}
+use Rattle.event.proofs.WritingTurns.{WritesOn, Wrote, wrote, unwritten, rows-done, rows-refused, rows-taken}
 use Rattle.s800_layout.specs.Event.{Packet}
 use Rattle.s800_layout.specs.Layout.{packetWords, packetRows}
 use Rattle.s800_layout.specs.Writing.{packet}

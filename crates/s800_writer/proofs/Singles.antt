@@ -15,7 +15,8 @@ use Rattle.event.specs.Words.{storeWord, belowChecks}
 use Rattle.event.specs.Scanning.{storeWords, Writes}
 use Rattle.event.specs.Writing.{rowTests, rowWith, ofKind, atKind, noRow}
 use Rattle.event.proofs.Codes.{Codes, any}
-use Rattle.event.proofs.RowJudged.{Numbered, row-taken, row-refused}
+use Rattle.event.proofs.RowFaults.{Numbered}
+use Rattle.event.proofs.RowJudged.{row-taken, row-refused}
 use Rattle.event.proofs.Turns.{upToStop}
 use Rattle.event.proofs.WritingTurns.{WritesOn, run-refused, run-taken}
 use Rattle.s800_layout.specs.Layout.{sampleWords, sampleRow, sampleChecks}
