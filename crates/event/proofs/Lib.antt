@@ -23,4 +23,5 @@ pub mod WordStores
 pub mod RowFaults
 pub mod RowJudged
 pub mod WritingTurns
+pub mod PartTurns
 pub mod Vectors

@@ -4,14 +4,12 @@ use Prim.Native.Nat.{ℕ, zero, suc, _+_, _≤_, _<_}
 use native.Mathlib.Omega.{arith}
 use native.Mathlib.Numerals.{add-one}
 use mathlib.Core.Path.{_≡_, refl, sym, ap, _∙_}
-use mathlib.Core.Bool.{Bool, true, false, cond, not}
+use mathlib.Core.Bool.{Bool, true, false, cond}
 use mathlib.Core.List.{List, [], _∷_}
-use lib.Dec.{T, eqb}
 use lib.ListN.{length, getD, drop}
 use lib.Seq.{drop-cons}
-use borrow.Author.Tests.{eq-eqb}
 use Rattle.event.specs.declared.Row.{Row}
-use Rattle.event.specs.Parser.{Result, ok, refuse, Test, faultIn, judge}
+use Rattle.event.specs.Parser.{ok, refuse, Test, faultIn, judge}
 use Rattle.event.specs.Writing.{rowTests, rowWith, noRow}
 use Rattle.event.proofs.Codes.{judge-complete}
 use Rattle.event.proofs.RowFaults.{Numbered, all-hold}

@@ -6,9 +6,9 @@ use native.Mathlib.Numerals.{add-one}
 use native.Mathlib.Omega.{arith}
 use mathlib.Core.Path.{_≡_, refl, sym, ap, _∙_}
 use mathlib.Core.List.{List, [], _∷_, _++_, append-nil}
-use lib.Dec.{T, ltb, ltb→lt}
-use lib.ListN.{length, take, drop, set, length-set, length-append, length-drop, drop-of-length-le}
-use lib.Seq.{set-comm, set-out, sets, sets-eq, take-all, length-take-le}
+use lib.Dec.{ltb→lt}
+use lib.ListN.{length, take, drop, set, length-set, length-drop, drop-of-length-le}
+use lib.Seq.{set-comm, sets, sets-eq, take-all}
 use borrow.Rule.Slice.PartMut.{putMid}
 use Rattle.event.specs.Words.{storeWord}
 use Rattle.event.specs.Outcome.{overlaid}

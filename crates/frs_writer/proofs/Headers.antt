@@ -5,7 +5,7 @@ use native.Mathlib.Omega.{arith}
 use mathlib.Core.Path.{_≡_, refl, sym, _∙_}
 use mathlib.Core.Bool.{Bool, true, false, not}
 use mathlib.Core.List.{List, [], _∷_, _++_}
-use lib.Dec.{eqb, ltb, leb, ltb→lt, leb→le}
+use lib.Dec.{eqb, ltb, ltb→lt, leb→le}
 use borrow.Author.Tests.{eq-eqb, ne-eqb, eqb-true, eqb-false, lt-ltb, le-leb}
 use Rattle.event.specs.declared.Row.{Row}
 use Rattle.event.specs.Parser.{Test, test, faultIn}

@@ -14,10 +14,7 @@ use Rattle.frs_layout.specs.Event.{Value}
 use Rattle.frs_layout.specs.Layout.{valueWord, moduleWords, words, geos}
 use Rattle.frs_layout.specs.Writing.{oneModule, eventRowsUpTo}
 
--- one item, one longword
-abbrev pub scalerWord : ℕ → List ℕ
-scalerWord v = v ∷ []
-
+-- the longword of one value
 abbrev pub valueWords : (geo : ℕ) → Value → List ℕ
 valueWords g v = valueWord g v ∷ []
 

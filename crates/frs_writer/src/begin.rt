@@ -16,11 +16,12 @@ ghost use mathlib.Core.Path.{_≡_};
 ghost use lib.ListN.{length, drop};
 ghost use denote.Ref.{now};
 ghost use Rattle.event.specs.Parser.{optionally, times, each, ifAny};
+ghost use Rattle.event.specs.Words.{wordAlone};
 ghost use Rattle.event.specs.Writing.{rowsIn};
 ghost use Rattle.event.specs.Scanning.{storeWords, Writes};
 ghost use Rattle.frs_layout.specs.Layout.{stampWords, scalerWords, patternWords};
 ghost use Rattle.frs_layout.specs.Writing.{stampOf, patternOf, scalerAt, nextIndex, scaler, patternUnit, atPattern};
-ghost use Rattle.frs_writer.specs.Parts.{scalerWord, Begins};
+ghost use Rattle.frs_writer.specs.Parts.{Begins};
 
 fn store_stamp(words: &mut [u32], row: Row)
     requires { ⌜ (row .unit < 2 ^ 16) × (row .channel < 2 ^ 16) × (row .datum < 2 ^ 16) ⌝ }
@@ -35,7 +36,7 @@ fn store_stamp(words: &mut [u32], row: Row)
 // The n scalers from row 2 on, as longwords from longword 5 on.
 fn scalers(rows: &[u32], n: u32, words: &mut [u32]) -> Part
     requires { ⌜ (n ≤ 32) × (2 ≤ length (rowsIn (now rows))) ⌝ }
-    ensures { λ r. ⌜ Writes 32 (each scalerWord) (times scalerAt nextIndex n 0 2 (drop 2 (rowsIn (now (rows .entry))))) (rowsIn (now (rows .entry))) 5 (now (words .entry)) r (now (words .exit)) ⌝ }
+    ensures { λ r. ⌜ Writes 32 (each wordAlone) (times scalerAt nextIndex n 0 2 (drop 2 (rowsIn (now (rows .entry))))) (rowsIn (now (rows .entry))) 5 (now (words .entry)) r (now (words .exit)) ⌝ }
 {
     let mut index: u32 = 0;
     let mut i: usize = 2;

@@ -8,7 +8,6 @@ use event::refuse_part;
 use event::rows::row_at;
 use event::words::part_start;
 ghost use Prim.Native.Nat.{_*_, _≤_};
-ghost use mathlib.Core.Path.{_≡_};
 ghost use mathlib.Core.List.{[]};
 ghost use lib.ListN.{length, drop};
 ghost use denote.Ref.{now};

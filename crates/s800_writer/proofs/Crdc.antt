@@ -2,16 +2,16 @@
 -- Assumes nothing.
 use Prim.Native.Nat.{ℕ, suc, _+_, _*_, _^_, _≤_, _<_}
 use native.Mathlib.Omega.{arith}
-use mathlib.Core.Path.{_≡_, refl, sym, ap, _∙_}
-use mathlib.Core.List.{List, [], _∷_, _++_}
+use mathlib.Core.Path.{_≡_, refl, ap, _∙_}
+use mathlib.Core.List.{List, [], _∷_}
 use lib.ListN.{length, getD, drop}
 use Rattle.event.specs.declared.Part.{Part}
 use Rattle.event.specs.declared.Part.the-variants.{Done, Refused}
 use Rattle.event.specs.declared.Row.{Row}
-use Rattle.event.specs.Parser.{Result, ok, refuse, several, each}
+use Rattle.event.specs.Parser.{ok, refuse, several, each}
 use Rattle.event.specs.Rows.{row}
 use Rattle.event.specs.Words.{storeWord, belowChecks}
-use Rattle.event.specs.Scanning.{storeWords, Writes}
+use Rattle.event.specs.Scanning.{Writes}
 use Rattle.event.specs.Writing.{atKind, noRow}
 use Rattle.event.proofs.Ends.{placed}
 use Rattle.event.proofs.WritingTurns.{Wrote, wrote, unwritten, writes-part, writes-done}

@@ -1,8 +1,8 @@
 -- The whole event: its first words, the stamp, the event number, the packets, and its length. Over plain values.
 -- Assumes nothing.
-use Prim.Native.Nat.{ℕ, suc, _+_, _*_, _-_, _≤_, _<_, min}
+use Prim.Native.Nat.{ℕ, _-_, _≤_, min}
 use native.Mathlib.Omega.{arith}
-use mathlib.Core.Path.{_≡_, refl, sym, ap, _∙_}
+use mathlib.Core.Path.{_≡_, refl, ap, _∙_}
 use mathlib.Core.List.{List, [], _∷_, _++_}
 use lib.ListN.{length, take, drop}
 use borrow.Rule.Slice.PartMut.{putMid}
@@ -12,9 +12,9 @@ use Rattle.event.specs.declared.Part.{Part}
 use Rattle.event.specs.declared.Part.the-variants.{Done, Refused}
 use Rattle.event.specs.declared.Row.{Row}
 use Rattle.event.specs.declared.StampOrder.{StampOrder}
-use Rattle.event.specs.Parser.{Result, ok, refuse, then, give, ended, several, each}
+use Rattle.event.specs.Parser.{Result, ok, then, give, ended, several, each}
 use Rattle.event.specs.Words.{storeWord}
-use Rattle.event.specs.Scanning.{storeWords, ScannedBy, writingPart, writingAll, Writes}
+use Rattle.event.specs.Scanning.{storeWords, ScannedBy, writingAll, Writes}
 use Rattle.event.proofs.Leads.{then-then, scanned-refuse}
 use Rattle.event.proofs.WordStores.{part-written}
 use Rattle.event.proofs.Ends.{placed}

@@ -1,19 +1,19 @@
 -- The stamp packet and the event number packet, of two rows each. Over plain values.
 -- Assumes nothing.
-use Prim.Native.Nat.{ℕ, _+_, _*_, _/_, _%_, _^_, _≤_, _<_}
+use Prim.Native.Nat.{ℕ, _+_, _/_, _%_}
 use native.Mathlib.Omega.{arith}
-use mathlib.Core.Path.{_≡_, refl, sym, ap, _∙_}
+use mathlib.Core.Path.{_≡_, refl, sym, _∙_}
 use mathlib.Core.Bool.{Bool, true, false, cond, _&&_}
-use mathlib.Core.List.{List, [], _∷_}
+use mathlib.Core.List.{List, []}
 use lib.Dec.{eqb}
-use lib.ListN.{length, getD, drop}
+use lib.ListN.{getD, drop}
 use borrow.Author.Tests.{eq-eqb, eqb-true}
 use Rattle.event.specs.declared.Part.{Part}
 use Rattle.event.specs.declared.Part.the-variants.{Done, Refused}
 use Rattle.event.specs.declared.Row.{Row}
 use Rattle.event.specs.declared.StampOrder.{StampOrder}
 use Rattle.event.specs.declared.StampOrder.the-variants.{Crossed, Rising}
-use Rattle.event.specs.Parser.{Parser, ok, refuse, faultIn, _>>_}
+use Rattle.event.specs.Parser.{Parser, refuse, faultIn, _>>_}
 use Rattle.event.specs.Words.{storeWord}
 use Rattle.event.specs.Scanning.{storeWords, Writes}
 use Rattle.event.specs.Writing.{sameRow, rowTests, rowWith, ofKind, noRow}

@@ -1,22 +1,21 @@
 -- The packets, written after their own row: from the words of their content to the packet. Over plain values.
 -- Assumes nothing.
-use Prim.Native.Nat.{ℕ, suc, _+_, _*_, _-_, _^_, _≤_, _<_}
+use Prim.Native.Nat.{ℕ, _+_, _-_, _^_, _≤_, _<_}
 use native.Mathlib.Omega.{arith}
 use mathlib.Core.Path.{_≡_, refl, sym, ap, subst, _∙_}
-use mathlib.Core.List.{List, [], _∷_, _++_, map}
+use mathlib.Core.List.{List, [], _∷_, map}
 use lib.ListN.{length, getD, drop}
 use borrow.Author.Tests.{ne-eqb}
 use Rattle.event.specs.declared.Part.{Part}
 use Rattle.event.specs.declared.Part.the-variants.{Done, Refused}
 use Rattle.event.specs.declared.Row.{Row}
-use Rattle.event.specs.Parser.{Result, ok, refuse, then, give, faultIn, several, each}
+use Rattle.event.specs.Parser.{Result, ok, refuse, faultIn, several, each}
 use Rattle.event.specs.Rows.{row}
-use Rattle.event.specs.Words.{storeWord, belowChecks}
+use Rattle.event.specs.Words.{wordAlone, storeWord, belowChecks}
 use Rattle.event.specs.Scanning.{Writes}
 use Rattle.event.specs.Writing.{rowTests, ofKind, noRow}
 use Rattle.event.proofs.ChannelLaws.{blocked-none}
-use Rattle.event.proofs.Elements.{each-map, map-self}
-use Rattle.event.proofs.Leads.{then-then}
+use Rattle.event.proofs.Elements.{each-map, each-alone}
 use Rattle.event.proofs.RowJudged.{row-taken, row-refused}
 use Rattle.event.proofs.WritingTurns.{writes-part, writes-as, writes-refused, writes-done}
 use Rattle.s800_format.specs.declared.Format.{Format}
@@ -25,7 +24,7 @@ use Rattle.s800_format.proofs.Formats.{trigger-format, flight-format, energies-
 use Rattle.s800_layout.specs.Event.{Datum, energies, hits, Form, trigger, timeOfFlight, ionChamber, hodoscope, objectPin, vmeAdc, Opaque, opaque, Content, energiesTag, tag, hitsId, patternBound, ChannelFormat, triggerTime, flightTime, energy16, adcEnergy}
 use Rattle.s800_layout.specs.Layout.{framed, channelWord, datumWord, registerWords, contentWords, packetWords, datumRow, hodoscopeBase, adcBase, registerRow, datumChecks, registerChecks}
 use Rattle.s800_layout.specs.Writing.{atPacket, datumOf, channelRows, content, registersOf, registers, datumBelow}
-use Rattle.s800_writer.specs.Rows.{limitsFault, datumFault, datumWords, wordAlone}
+use Rattle.s800_writer.specs.Rows.{limitsFault, datumFault, datumWords}
 use Rattle.s800_writer.specs.Packets.{closed, WritesPacket}
 use Rattle.s800_writer.proofs.Closing.{closed-writes}
 use Rattle.s800_writer.proofs.Datum.{datum-fault}
@@ -86,7 +85,7 @@ module _ (rs : List Row) (i : ℕ) where
   -- opaque words
   pub opaque-content : (k : Opaque) {b after : List ℕ} {r : Part} → Writes 16 (each wordAlone) (several (datumBelow 11 0 (2 ^ 16)) (atPacket) (i + 1) (drop (i + 1) rs)) rs 2 b r after
       → Writes 16 (contentWords (opaque k)) (contentAt (opaque k) 0 rs i) rs 2 b r after
-  opaque-content k = writes-as 16 (each wordAlone) (λ ws. ws) (contentAt (opaque k) 0 rs i) (λ ws. each-map (λ w. w) ws ∙ map-self ws)
+  opaque-content k = writes-as 16 (each wordAlone) (λ ws. ws) (contentAt (opaque k) 0 rs i) each-alone
 
   module _ {r : Row} (e : r ≡ getD rs (i + 1) noRow) where
     two : i + 1 + 1 ≡ i + 2

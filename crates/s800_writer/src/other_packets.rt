@@ -11,7 +11,7 @@ use event::refuse_part;
 use event::rows::row_at;
 use event::words::store_word16;
 use s800_format::tag;
-ghost use Prim.Native.Nat.{ℕ, _≤_, _<_};
+ghost use Prim.Native.Nat.{_<_};
 ghost use mathlib.Core.Path.{_≡_};
 ghost use lib.ListN.{length, drop};
 ghost use denote.Ref.{now};

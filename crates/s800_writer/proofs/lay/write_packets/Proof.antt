@@ -19,7 +19,7 @@ abbrev μ-loop : tie.MeasureT-loop
 μ-loop rows from words₀ first i₀ at₀ words i at = length (rowsIn rows) - i
 
 returns : tie.Need-returns Inv-loop μ-loop
-returns c = packets-stop (c .before .before .before .before .before .before .before .before .before .loop .inv) (omega (arith, rows-count (c .before .before .before .before .before .before .before .before .before .before .before .before .args .rows .now), (c .before .before .before .before .before .before .before .before .loop-test .taken))) (c .before .before .before .before .before .before .before .part-start .ensures) refl _ (c .before .before .before .before .before .write-packet .ensures) (c .before .written .given .1)
+returns c = packets-stop (c .before .before .before .before .before .before .before .before .before .loop .inv) (omega (arith, rows-count (c .before .before .before .before .before .before .before .before .before .before .before .before .args .rows .now), (c .before .before .before .before .before .before .before .before .loop-test .taken))) (c .before .before .before .before .before .before .before .part-start .ensures) refl (c .before .before .before .before .before .write-packet .ensures) _ (c .before .written .given .1)
 
 add-at : tie.Need-add-at Inv-loop μ-loop
 add-at c = let w = packets-within (c .before .before .before .before .before .before .before .before .before .loop .inv) (omega (arith, rows-count (c .before .before .before .before .before .before .before .before .before .before .before .before .args .rows .now), (c .before .before .before .before .before .before .before .before .loop-test .taken))) (c .before .before .before .before .before .before .before .part-start .ensures) refl (c .before .before .before .before .before .write-packet .ensures) (c .before .written2 .given .1) in omega (arith, rows-count (c .before .before .before .before .before .before .before .before .before .before .before .before .args .rows .now), w .0, w .2)

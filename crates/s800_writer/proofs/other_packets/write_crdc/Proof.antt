@@ -1,6 +1,6 @@
 -- `other_packets::write_crdc` meets its contract. Assumes nothing.
 use native.Mathlib.Omega.{arith}
-use mathlib.Core.Path.{refl, sym, _∙_}
+use mathlib.Core.Path.{sym, _∙_}
 use Rattle.event.specs.Writing.{rowsIn}
 use Rattle.event.proofs.RowsIn.{rows-count}
 use Rattle.s800_layout.specs.Event.{crdc}
