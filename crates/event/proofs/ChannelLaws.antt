@@ -11,7 +11,7 @@ use lib.Pow.{pow-pos, pow-lt, pow-add, shl-shr}
 use lib.Bits.{bitOr, or-shr, or-mod}
 use borrow.Author.Tests.{eq-eqb, ne-eqb, eqb-true, eqb-false, ltb-true, ltb-false}
 use Rattle.event.specs.Parser.{fresh, member}
-use Rattle.event.specs.Channels.{present, insert, others}
+use Rattle.event.specs.Channels.{present, insert, others, Blocked}
 
 bit-self : (k : ℕ) → 2 ^ k / 2 ^ k % 2 ≡ 1
 bit-self k = let p : 2 ^ k / 2 ^ k ≡ 1 = div-self (pow-pos k) in rw p
@@ -50,10 +50,6 @@ unfolding present insert
 present-insert set j k =
     rw (or-shr set (2 ^ j) k, or-mod (set / 2 ^ k) (2 ^ j / 2 ^ k) 1)
     (or-bit (set / 2 ^ k % 2) (2 ^ j / 2 ^ k % 2) (omega arith) (omega arith) ∙ rw (bit j k))
-
--- the set holds the channels that are barred, and those seen
-pub record Blocked (barred set : ℕ) (seen : List ℕ) : Type 0 where
-  pub holds : (k : ℕ) → present set k ≡ present barred k || not (fresh k seen)
 
 or-false : (b : Bool) → b ≡ b || false
 or-false true = refl

@@ -77,7 +77,7 @@ module _ {E A : Type 0} where
       go ih₁ true h k = let ih = ih₁ k in ((true-T (t .holds) h, ih .0), ih .1, ih .2, ih .3)
       go ih₁ false h k = impossible cc
 
-  judge-complete : (ts : List Test) (a : A) (i : ℕ) (r : List E) → Passed ts → judge ts a i r ≡ ok a (suc i) r
+  pub judge-complete : (ts : List Test) (a : A) (i : ℕ) (r : List E) → Passed ts → judge ts a i r ≡ ok a (suc i) r
   judge-complete [] a i r p = refl
   judge-complete (t ∷ ts) a i r p = rw (T-true (t .holds) (p .0)) (judge-complete ts a i r (p .1))
 

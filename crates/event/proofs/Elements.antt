@@ -7,7 +7,7 @@ use mathlib.Core.List.{List, [], _∷_, _++_, map}
 use lib.Dec.{T, leb, leb→le, eqb→eq, eqb-refl}
 use borrow.Author.Tests.{le-leb}
 use Rattle.event.specs.Parser.{Parser, Test, Passed, prints, Goods, each, All, alone, several}
-use Rattle.event.specs.Words.{layout, exactly, anyWord, between, belowChecks, wordBelow}
+use Rattle.event.specs.Words.{layout, wordAlone, exactly, anyWord, between, belowChecks, wordBelow}
 use Rattle.event.proofs.Codes.{Codes, any, At, same, codes-element}
 use Rattle.event.proofs.Many.{codes-many-at}
 
@@ -44,10 +44,6 @@ pub prints-each : {E St A : Type 0} (f : A → List E) (next : St → A → St) 
 prints-each f next st [] = refl
 prints-each f next st (x ∷ xs) = ap (f x ++_) (prints-each f next (next st x) xs)
 
-pub map-self : (xs : List ℕ) → map (λ (x : ℕ). x) xs ≡ xs
-map-self [] = refl
-map-self (x ∷ xs) = ap (x ∷_) (map-self xs)
-
 goods-all : {A : Type 0} (Good : A → Type 0) (xs : List A) → Goods (λ u. Good) alone tt xs → All Good xs
 goods-all Good [] g = tt
 goods-all Good (x ∷ xs) g = (g .0, goods-all Good xs (g .1))
@@ -70,3 +66,7 @@ codes-several stop c = codes-several-at stop c (λ a g r. tt) (λ r t. tt)
 pub each-map : {E A : Type 0} (f : A → E) (xs : List A) → each (λ a. f a ∷ []) xs ≡ map f xs
 each-map f [] = refl
 each-map f (x ∷ xs) = ap (f x ∷_) (each-map f xs)
+
+pub each-alone : (ws : List ℕ) → each wordAlone ws ≡ ws
+each-alone [] = refl
+each-alone (w ∷ ws) = ap (w ∷_) (each-alone ws)

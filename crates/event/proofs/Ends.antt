@@ -12,16 +12,14 @@ use Rattle.event.specs.Parser.{Result, ok, refuse, Parser, then, _>>=_, 
 use Rattle.event.proofs.Codes.{Codes, true-T}
 use Rattle.event.proofs.Impossible.{impossible}
 
--- the place given is where the rest of the input stands: what a loop over a slice by an index needs
+-- where a parser of the elements from i on ends: what a loop over a slice by an index needs
 pub placed : {E A : Type 0} {Rest : List E → Type 0} {p : Parser E A} {print : A → List E} {Good : A → Type 0} → Codes Rest p print Good
-    → (ws : List E) (i : ℕ) (a : A) (j : ℕ) (r : List E) → i ≤ length ws → p i (drop i ws) ≡ ok a j r → (r ≡ drop j ws) × (i ≤ j) × (j ≤ length ws)
-placed {print = print} c ws i a j r h e =
-    let k = c .sound i (drop i ws) a j r e in
-    let n : i + length (print a) ≡ j = omega (arith, k .2) in (
-      sym (drop-at (print a) r (length (print a)) refl) ∙ ap (drop (length (print a))) (sym (k .1)) ∙ drop-drop (length (print a)) i ws ∙ ap (λ (m : ℕ). drop m ws) n,
-      omega (arith, k .2),
-      omega (arith, k .2, ap length (k .1), length-append (print a) r, length-drop i ws),
-    )
+    → (l : List E) (i : ℕ) {a : A} {j : ℕ} {r : List E} → i ≤ length l → p i (drop i l) ≡ ok a j r → (r ≡ drop j l) × (j ≡ i + length (print a)) × (j ≤ length l)
+placed {E} {print = print} c l i {a} {j} {r} h e =
+    let s = c .sound i (drop i l) a j r e in
+    let n = print a in
+    let d : drop j l ≡ r = ap (λ (k : ℕ). drop k l) (s .2) ∙ sym (drop-drop (length n) i l) ∙ ap (drop (length n)) (s .1) ∙ drop-at n r (length n) refl in
+    (sym d, s .2, omega (arith, s .2, ap length (s .1), length-append n r, length-drop i l))
 
 -- where a parser stops
 abbrev pub Ends : {E A : Type 0} → (List E → Bool) → Parser E A → Type 0

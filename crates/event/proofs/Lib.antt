@@ -14,12 +14,14 @@ pub mod ChannelLaws
 pub mod Stores
 pub mod Loops
 pub mod Refusals
+pub mod RowsIn
 pub mod RowCodes
 pub mod Trips
 pub mod ReadingRefusals
 pub mod WritingRefusals
-pub mod RowsIn
 pub mod WordStores
+pub mod RowFaults
 pub mod RowJudged
 pub mod WritingTurns
+pub mod PartTurns
 pub mod Vectors

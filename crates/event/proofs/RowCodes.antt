@@ -18,22 +18,25 @@ use Rattle.event.proofs.Codes.{Codes, any, codes-element}
 use Rattle.event.proofs.Elements.{both}
 use Rattle.event.proofs.Whole.{passed}
 
-pub same-row : (r s : Row) → T (sameRow r s) → r ≡ s
-same-row r s t =
+-- a row's fields beside those of another
+abbrev pub SameFields : Row → Row → Type 0
+SameFields r s = (r .kind ≡ s .kind) × (r .unit ≡ s .unit) × (r .channel ≡ s .channel) × (r .datum ≡ s .datum)
+
+pub same-fields : (r s : Row) → T (sameRow r s) → SameFields r s
+same-fields r s t =
     let a = both (eqb (r .kind) (s .kind)) _ t in
     let b = both (eqb (r .unit) (s .unit)) _ (a .1) in
     let c = both (eqb (r .channel) (s .channel)) _ (b .1) in
-    λ i. record {
-      kind = eqb→eq (r .kind) (s .kind) (a .0) i;
-      unit = eqb→eq (r .unit) (s .unit) (b .0) i;
-      channel = eqb→eq (r .channel) (s .channel) (c .0) i;
-      datum = eqb→eq (r .datum) (s .datum) (c .1) i;
-    }
+    (eqb→eq (r .kind) (s .kind) (a .0), eqb→eq (r .unit) (s .unit) (b .0), eqb→eq (r .channel) (s .channel) (c .0), eqb→eq (r .datum) (s .datum) (c .1))
 
-pub row-refl : (r : Row) → T (sameRow r r)
-row-refl r =
-    let self : (n : ℕ) → eqb n n ≡ true = λ n. eq-eqb n n refl in
-    rw (self (r .kind), self (r .unit), self (r .channel), self (r .datum)) tt
+pub fields-same : (r s : Row) → SameFields r s → sameRow r s ≡ true
+fields-same r s h = rw (eq-eqb (r .kind) (s .kind) (h .0), eq-eqb (r .unit) (s .unit) (h .1), eq-eqb (r .channel) (s .channel) (h .2), eq-eqb (r .datum) (s .datum) (h .3))
+
+same-row : (r s : Row) → T (sameRow r s) → r ≡ s
+same-row r s t = let h = same-fields r s t in λ i. record { kind = h .0 i; unit = h .1 i; channel = h .2 i; datum = h .3 i }
+
+row-refl : (r : Row) → T (sameRow r r)
+row-refl r = rw (fields-same r r (refl, refl, refl, refl)) tt
 
 -- a row: its fields may need their checks to be found again
 pub codes-row : {A : Type 0} (stands : Row → Bool) (fields : Row → A) (print : A → Row) (checks : A → List Test)

@@ -4,31 +4,17 @@ use Prim.Native.Nat.{ℕ, zero, suc, _+_, _≤_, _<_}
 use native.Mathlib.Omega.{arith}
 use native.Mathlib.Numerals.{add-one}
 use mathlib.Core.Path.{_≡_, refl, sym, ap, _∙_}
-use mathlib.Core.Bool.{Bool, true, false, cond, not}
+use mathlib.Core.Bool.{Bool, true, false, cond}
 use mathlib.Core.List.{List, [], _∷_}
-use lib.Dec.{T, eqb}
 use lib.ListN.{length, getD, drop}
 use lib.Seq.{drop-cons}
-use borrow.Author.Tests.{eq-eqb}
 use Rattle.event.specs.declared.Row.{Row}
-use Rattle.event.specs.Parser.{Result, ok, refuse, Test, faultIn, judge}
+use Rattle.event.specs.Parser.{ok, refuse, Test, faultIn, judge}
 use Rattle.event.specs.Writing.{rowTests, rowWith, noRow}
-use Rattle.event.proofs.Impossible.{impossible}
-
--- no test has the number 0
-abbrev pub Numbered : List Test → Type 0
-Numbered [] = Unit {0}
-Numbered (t ∷ ts) = T (not (eqb (t .number) 0)) × Numbered ts
+use Rattle.event.proofs.Codes.{judge-complete}
+use Rattle.event.proofs.RowFaults.{Numbered, all-hold}
 
 module _ {E A : Type 0} (a : A) (i : ℕ) (r : List E) where
-  judge-none : (ts : List Test) → Numbered ts → 0 ≡ faultIn ts → judge ts a i r ≡ ok a (suc i) r
-  judge-none [] n e = refl
-  judge-none (t ∷ ts) n e = go (t .holds) (judge-none ts (n .1)) e
-    where
-      go : (b : Bool) → (0 ≡ faultIn ts → judge ts a i r ≡ ok a (suc i) r) → 0 ≡ cond b (faultIn ts) (t .number) → cond b (judge ts a i r) (refuse (t .number) i) ≡ ok a (suc i) r
-      go true ih e = ih e
-      go false ih e = absurd (rw (eq-eqb (t .number) 0 (sym e)) at (n .0))
-
   judge-some : (ts : List Test) {n : ℕ} → n ≡ faultIn ts → (n ≡ 0 → ⊥) → judge ts a i r ≡ refuse n i
   judge-some [] e z = absurd (z e)
   judge-some (t ∷ ts) {n} e z = go (t .holds) (λ q. judge-some ts q z) e
@@ -68,7 +54,7 @@ module _ {A : Type 0} (stands : Row → Bool) (fields : Row → A) (print : A �
   row-taken f = go (place rs i)
     where
       go : Place rs i → (i < length rs) × (rowWith stands fields print checks i (drop i rs) ≡ ok (fields r) (i + 1) (drop (i + 1) rs))
-      go (there h) = (h, rw (rows-from rs i h, ← e, add-one i) (judge-none (fields r) i (drop (suc i) rs) (rowTests stands fields print checks r) (tt, (tt, numbered (fields r))) f))
+      go (there h) = (h, rw (rows-from rs i h, ← e, add-one i) (judge-complete (rowTests stands fields print checks r) (fields r) i (drop (suc i) rs) (all-hold (rowTests stands fields print checks r) (tt, (tt, numbered (fields r))) f)))
       go (over h) =
           let z : stands r ≡ false = rw (e ∙ rows-over rs i h .1) none in
           let n : _≡_ {A = ℕ} 0 21 = rw z at f in

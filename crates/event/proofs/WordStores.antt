@@ -6,9 +6,9 @@ use native.Mathlib.Numerals.{add-one}
 use native.Mathlib.Omega.{arith}
 use mathlib.Core.Path.{_≡_, refl, sym, ap, _∙_}
 use mathlib.Core.List.{List, [], _∷_, _++_, append-nil}
-use lib.Dec.{T, ltb, ltb→lt}
-use lib.ListN.{length, take, drop, set, length-set, length-append, length-drop, drop-of-length-le}
-use lib.Seq.{set-comm, set-out, sets, sets-eq, take-all, length-take-le}
+use lib.Dec.{ltb→lt}
+use lib.ListN.{length, take, drop, set, length-set, length-drop, drop-of-length-le}
+use lib.Seq.{set-comm, sets, sets-eq, take-all}
 use borrow.Rule.Slice.PartMut.{putMid}
 use Rattle.event.specs.Words.{storeWord}
 use Rattle.event.specs.Outcome.{overlaid}
@@ -16,7 +16,7 @@ use Rattle.event.specs.Demands.{InWidth}
 use Rattle.event.specs.Scanning.{storeWords}
 
 module _ (width : ℕ) where
-  pub length-stored : (b : List ℕ) (i w : ℕ) → length (storeWord width b i w) ≡ length b
+  length-stored : (b : List ℕ) (i w : ℕ) → length (storeWord width b i w) ≡ length b
   unfolding storeWord
   length-stored b i w = length-set b i (w % 2 ^ width)
 
@@ -57,7 +57,7 @@ module _ (width : ℕ) where
       ap (λ (n : ℕ). storeWords width (x ∷ storeWord width b k w) n ws) e ∙ first-kept x ws (storeWord width b k w) (k + 1)
 
   -- words stored in the part from the smaller of `at` and the length on
-  pub in-part : (ws b : List ℕ) (at m : ℕ) → m ≡ min at (length b) → take m b ++ storeWords width (drop m b) 0 ws ≡ storeWords width b at ws
+  in-part : (ws b : List ℕ) (at m : ℕ) → m ≡ min at (length b) → take m b ++ storeWords width (drop m b) 0 ws ≡ storeWords width b at ws
   in-part ws b zero m e = let z : m ≡ 0 = omega arith in rw z
   in-part ws [] (suc at) m e = let z : m ≡ 0 = omega arith in rw (z, none-stored ws 0, none-stored ws (suc at))
   in-part ws (x ∷ b) (suc at) zero e = absurd (omega arith)
@@ -65,16 +65,13 @@ module _ (width : ℕ) where
 
 -- a part `&mut b[a..]` that is lent, and comes back
 module _ (a : ℕ) (b : List ℕ) where
-  pub part-lent : take (length b - a) (drop a b) ≡ drop a b
+  part-lent : take (length b - a) (drop a b) ≡ drop a b
   part-lent = take-all (length b - a) (drop a b) (le-of-eq (length-drop a b))
 
-  pub part-back : (ys : List ℕ) → putMid a (length b - a) b ys ≡ take a b ++ ys
+  part-back : (ys : List ℕ) → putMid a (length b - a) b ys ≡ take a b ++ ys
   part-back ys =
       ap (λ (l : List ℕ). take a b ++ (ys ++ l)) (drop-of-length-le (drop a b) (le-of-eq (length-drop a b)))
       ∙ rw append-nil
-
-  pub part-length : (ys : List ℕ) → a ≤ length b → length ys ≡ length (drop a b) → length (take a b ++ ys) ≡ length b
-  part-length ys h e = omega (arith, length-append (take a b) ys, length-take-le a b h, length-drop a b)
 
 -- words written at the front of the part that starts at the smaller of `at` and the length
 pub part-written : (width : ℕ) (ws b : List ℕ) (at : ℕ) {start : ℕ} {part part′ b′ : List ℕ} → start ≡ min at (length b) → part ≡ take (length b - start) (drop start b) → part′ ≡ storeWords width part 0 ws

@@ -5,7 +5,7 @@ use native.Mathlib.Omega.{arith}
 use mathlib.Core.Path.{_≡_, refl}
 use mathlib.Core.Logic.{inl, inr, ⊎-elim}
 use mathlib.Core.Bool.{Bool, true, false, cond}
-use mathlib.Core.List.{List, [], _∷_}
+use mathlib.Core.List.{List, []}
 use lib.Dec.{T, eqb}
 use lib.ListN.{length}
 use borrow.Author.Tests.{eqb-true, eqb-false}
@@ -16,6 +16,7 @@ use Rattle.event.specs.Outcome.{done, refused, outcome, limited}
 use Rattle.event.specs.Writing.{rowsIn, writingBy, RefusedAt}
 use Rattle.event.proofs.Elements.{bounds}
 use Rattle.event.proofs.Refusals.{Keeps, There, keeps-left, keeps-element, keeps-times, keeps-many-at, keeps-outcome}
+use Rattle.event.proofs.RowsIn.{rows-count}
 use Rattle.event.proofs.Whole.{limited-refused}
 
 -- the refusals of a row
@@ -46,18 +47,11 @@ pub writes-times : {St A : Type 0} {count : ℕ} (item : St → Parser Row A) (n
     → (n : ℕ) (st : St) (s : List Row) → Writes count s (times item next n st)
 writes-times item next c n st s = keeps-times item next (λ k r. length r ≤ length s) (λ k st t g. keeps-left (c st t) (λ r e. omega arith)) n st s (omega arith)
 
-rows-counted : (xs : List ℕ) → length (rowsIn xs) ≡ length xs / 4
-rows-counted [] = refl
-rows-counted (k ∷ []) = refl
-rows-counted (k ∷ u ∷ []) = refl
-rows-counted (k ∷ u ∷ c ∷ []) = refl
-rows-counted (k ∷ u ∷ c ∷ d ∷ xs) = omega (arith, rows-counted xs)
-
 module _ {Event : Type 0} {p : Parser Row Event} (words : Event → List ℕ) (largest : ℕ) (c : (rs : List Row) → Writes (length rs) rs p) (xs : List ℕ) (n k : ℕ) where
   -- 21 or 22, each at its places
   placed : (b : Bool) → eqb n 21 ≡ b → T (ofRow n) → k < length (rowsIn xs) + cond b 1 0 → RefusedAt largest (length xs / 4) n k
-  placed true e t l = inr (inl (eqb-true n 21 e, omega (arith, rows-counted xs)))
-  placed false e t l = inr (inr (inl (omega (arith, bounds 21 22 n t, eqb-false n 21 e), omega (arith, rows-counted xs))))
+  placed true e t l = inr (inl (eqb-true n 21 e, omega (arith, rows-count xs)))
+  placed false e t l = inr (inr (inl (omega (arith, bounds 21 22 n t, eqb-false n 21 e), omega (arith, rows-count xs))))
 
   of-rows : limited 23 largest (outcome (λ e. done (words e)) (p 0 (rowsIn xs))) ≡ refused n k → RefusedAt largest (length xs / 4) n k
   of-rows e = ⊎-elim

@@ -1,32 +1,22 @@
 -- A loop by an index that writes words from rows: what it has reached, and what a turn does.
 -- Assumes nothing.
 use Prim.Native.Nat.{ℕ, zero, suc, _+_, _*_, _≤_}
-use native.Mathlib.Omega.{arith}
-use mathlib.Core.Path.{_≡_, refl, sym, ap, _∙_}
+use mathlib.Core.Path.{_≡_, refl, ap, _∙_}
 use mathlib.Core.Bool.{Bool, true, false, not}
 use mathlib.Core.List.{List, [], _∷_, _++_}
-use lib.ListN.{length, drop, length-append, length-drop}
-use lib.Seq.{drop-at, drop-drop}
+use lib.ListN.{length, drop}
+use Rattle.event.specs.declared.Answer.the-variants as answer
 use Rattle.event.specs.declared.Part.{Part}
 use Rattle.event.specs.declared.Part.the-variants.{Done, Refused}
 use Rattle.event.specs.declared.Row.{Row}
 use Rattle.event.specs.Parser.{Result, ok, refuse, Parser, then, _>>=_, give, times, many, each}
-use Rattle.event.specs.Scanning.{storeWords, ScannedBy, writingPart, Writes}
+use Rattle.event.specs.Scanning.{storeWords, ScannedBy, writingAll, writingPart, Writes}
 use Rattle.event.proofs.Codes.{Codes, any}
 use Rattle.event.proofs.Impossible.{impossible}
-use Rattle.event.proofs.Leads.{leads-part}
+use Rattle.event.proofs.Leads.{leads-part, scanned-refuse}
 use Rattle.event.proofs.Loops.{to-the-end}
 use Rattle.event.proofs.Many.{many-step, many-stop}
 use Rattle.event.proofs.Turns.{Items, upToStop, ReachedBy, stopped, item-refused, item-taken}
-
--- where a parser of the elements from i on ends
-pub placed : {E A : Type 0} {Rest : List E → Type 0} {p : Parser E A} {print : A → List E} {Good : A → Type 0} → Codes Rest p print Good
-    → (l : List E) (i : ℕ) {a : A} {j : ℕ} {r : List E} → i ≤ length l → p i (drop i l) ≡ ok a j r → (r ≡ drop j l) × (j ≡ i + length (print a)) × (j ≤ length l)
-placed {E} {print = print} c l i {a} {j} {r} h e =
-    let s = c .sound i (drop i l) a j r e in
-    let n = print a in
-    let d : drop j l ≡ r = ap (λ (k : ℕ). drop k l) (s .2) ∙ sym (drop-drop (length n) i l) ∙ ap (drop (length n)) (s .1) ∙ drop-at n r (length n) refl in
-    (sym d, s .2, omega (arith, s .2, ap length (s .1), length-append n r, length-drop i l))
 
 -- counted items: the state has the number of those left
 abbrev one-less : ℕ → ℕ
@@ -125,3 +115,15 @@ module _ (width : ℕ) {A : Type 0} (f : A → List ℕ) where
 
   pub writes-refused : {x : Result Row A} {rs : List Row} {n p k : ℕ} {b after : List ℕ} {r : Part} → x ≡ refuse n p → r ≡ Refused n p → Writes width f x rs k b r after
   writes-refused e q = rw (e, q) (record { scanned = record { answered = refl; stored = tt }; within = tt })
+
+  pub writes-done : {x : Result Row A} {rs : List Row} {a : A} {l : List Row} {j e k : ℕ} {b after : List ℕ} {r : Part} → x ≡ ok a j l → r ≡ Done j e → e ≡ k + length (f a) → after ≡ storeWords width b k (f a)
+      → j ≤ length rs → e ≤ 4 * j → Writes width f x rs k b r after
+  writes-done {j = j} p q c s m n = rw (p, q) (record { scanned = record { answered = ap (Done j) c; stored = s }; within = (m, n) })
+
+  -- a part that is the whole event
+  module _ {x : Result Row A} {k : ℕ} {b after : List ℕ} {r : Part} (s : ScannedBy (writingPart width) f x k b r after) where
+    pub all-refused : {n p : ℕ} {after′ : List ℕ} → r ≡ Refused n p → ScannedBy (writingAll width) f x k b (answer.Refused n p) after′
+    all-refused {after′ = after′} q = scanned-refuse f k b after′ (unwritten x (rw q at s))
+
+    pub all-done : {j e : ℕ} → r ≡ Done j e → ScannedBy (writingAll width) f x k b (answer.Accepted e) after
+    all-done q = let t = wrote x (rw q at s) in rw (t .parsed) (record { answered = ap answer.Accepted (t .counted); stored = t .stored })

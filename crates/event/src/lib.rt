@@ -40,3 +40,10 @@ pub fn default_order() -> StampOrder
 {
     StampOrder::Crossed
 }
+
+// A part that is refused.
+pub fn refuse_part(number: u32, place: usize) -> Part
+    ensures { λ r. ⌜ r ≡ Part.Refused number place ⌝ }
+{
+    Part::Refused { number, place }
+}

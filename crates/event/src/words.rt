@@ -1,5 +1,6 @@
 // Words in a lent buffer.
 ghost use mathlib.Core.Path.{_≡_};
+ghost use Prim.Native.Nat.{min};
 ghost use denote.Ref.{now};
 ghost use Rattle.event.specs.Words.{storeWord};
 
@@ -19,4 +20,11 @@ pub fn store_word32(words: &mut [u32], at: usize, word: u32)
     if at < words.len() {
         words[at] = word;
     }
+}
+
+// Where the part of `length` words that begins at `at` starts: past the end it is empty.
+pub fn part_start(at: usize, length: usize) -> usize
+    ensures { λ r. ⌜ r ≡ min at length ⌝ }
+{
+    if at < length { at } else { length }
 }

@@ -1,5 +1,10 @@
 // The numbers of dialect F that reading and writing share (document 01, 'Dialect F').
 
+// An event has from 7 to 1,062 longwords (document 01, 'Dialect F').
+pub const SMALLEST_EVENT: usize = 7;
+
+pub const LARGEST_EVENT: usize = 1062;
+
 // The stamp: its first longword, and the upper halves of the other three.
 pub const STAMP: u32 = 0x0000_0200;
 

@@ -13,7 +13,7 @@ use Rattle.event.specs.Words.{belowChecks}
 use Rattle.event.proofs.Codes.{Codes, any, At, same, less, not-true, codes-give, codes-here, codes-within}
 use Rattle.event.proofs.Sequences.{codes-bind}
 use Rattle.event.proofs.Many.{codes-many}
-use Rattle.event.proofs.Elements.{codes-layout, codes-exactly, codes-several, prints-map, each-map, map-self}
+use Rattle.event.proofs.Elements.{codes-layout, codes-exactly, codes-several, prints-map, each-alone}
 use Rattle.event.proofs.Impossible.{impossible}
 use Rattle.frs_layout.specs.Event.{Stamp, PatternUnit, Value, Module, empty, withData, scalerGeo, patternGeo, stampIdentifier, scalerEnd, patternHeader, patternEnd}
 use Rattle.frs_layout.specs.Layout.{halves, datumBits, valueWord, stampWords, scalerWords, patternWords, moduleWords, words, stampChecks, countChecks, scalerChecks, patternChecks, valueChecks, counterChecks, channels, ValidScalers, ValidValue, ValidModule, Formed, headerWord, footerWord, emptyWord}
@@ -46,7 +46,7 @@ codes-blockOf {print = print} {footerWord = footerWord} p n part c d back = same
 
 pub codes-scalerValues : Codes (At ended) scalerValues (λ vs. vs) (All (λ v. Passed (scalerChecks 0 v)))
 codes-scalerValues = same (codes-several ended (codes-layout 10 (λ w. w) (λ w. w) (scalerChecks 10) (λ w p. refl)) (λ w g r. refl) refl)
-    (λ vs g. g) (λ vs g. g) (λ vs g. rw (each-map (λ (w : ℕ). w) vs) (map-self vs))
+    (λ vs g. g) (λ vs g. g) (λ vs g. each-alone vs)
 
 codes-scaler : Codes any scaler scalerWords ValidScalers
 codes-scaler = codes-here λ p. same

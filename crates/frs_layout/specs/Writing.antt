@@ -12,8 +12,18 @@ use Rattle.frs_layout.specs.Event.{Stamp, PatternUnit, Value, Module, em
 use Rattle.frs_layout.specs.Layout.{words, stampRow, scalerBlockRow, scalerRow, patternRow, emptyRow, moduleRow, valueRow, stampChecks, countChecks, scalerChecks, patternChecks, geoChecks, valueChecks, counterChecks, channels, geos, largestEvent}
 use Rattle.frs_layout.specs.Reading.{eventOf}
 
+-- the fields of a row
+abbrev pub stampOf : Row → Stamp
+stampOf r = record { word1 = r .unit; word2 = r .channel; word3 = r .datum }
+
+abbrev pub patternOf : Row → PatternUnit
+patternOf r = record { register = r .datum; multiplicity = r .channel }
+
+abbrev pub valueOf : Row → Value
+valueOf r = record { channel = r .channel; datum = r .datum }
+
 abbrev pub stamp : Parser Row Stamp
-stamp = rowWith (ofKind 16) (λ r. record { word1 = r .unit; word2 = r .channel; word3 = r .datum }) stampRow (stampChecks 22)
+stamp = rowWith (ofKind 16) stampOf stampRow (stampChecks 22)
 
 -- the scaler with this index
 abbrev pub scalerAt : (index : ℕ) → Parser Row ℕ
@@ -29,7 +39,7 @@ scaler = do
   times scalerAt nextIndex n 0
 
 abbrev pub patternUnit : Parser Row PatternUnit
-patternUnit = rowWith (ofKind 19) (λ r. record { register = r .datum; multiplicity = r .channel }) patternRow (patternChecks 22)
+patternUnit = rowWith (ofKind 19) patternOf patternRow (patternChecks 22)
 
 -- a row of kind 19 right after the scalers is a pattern unit
 abbrev pub atPattern : List Row → Bool
@@ -59,7 +69,7 @@ abbrev header : List ℕ → Parser Row Header
 header seen = rowWith startsModule headerOf firstRow (headerChecks seen)
 
 abbrev pub value : (g : ℕ) → List ℕ → Parser Row Value
-value g seen = rowWith (ofKind 22) (λ r. record { channel = r .channel; datum = r .datum }) (valueRow g) (valueChecks 22 22 seen)
+value g seen = rowWith (ofKind 22) valueOf (valueRow g) (valueChecks 22 22 seen)
 
 -- as many values as the first row says
 abbrev pub body : Header → Parser Row Module

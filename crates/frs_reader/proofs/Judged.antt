@@ -9,8 +9,8 @@ use mathlib.Core.List.{List, _∷_}
 use lib.Dec.{eqb, leb}
 use borrow.Author.Tests.{eq-eqb, ne-eqb, eqb-true, eqb-false, lt-ltb, leb-true}
 use Rattle.event.specs.Parser.{Result, ok, refuse, then, give, judge}
-use Rattle.event.specs.Channels.{present}
-use Rattle.event.proofs.ChannelLaws.{Blocked, seen-only}
+use Rattle.event.specs.Channels.{present, Blocked}
+use Rattle.event.proofs.ChannelLaws.{seen-only}
 use Rattle.frs_layout.specs.Event.{Value, withData}
 use Rattle.frs_layout.specs.Layout.{longword, halves, datumBits, valueWord, geoChecks}
 use Rattle.frs_layout.specs.Reading.{dataUnder, Header, emptyHeader, dataHeader, headerOf, header, valueOf, value, footer}

@@ -11,7 +11,7 @@ use lib.ListN.{length, getD}
 use lib.Seq.{slice}
 use borrow.Author.Tests.{ne-eqb, le-leb, lt-leb, leb-true, leb-false}
 use Rattle.event.specs.Parser.{Result, ok, refuse, then}
-use Rattle.event.proofs.ChannelLaws.{Blocked}
+use Rattle.event.specs.Channels.{Blocked}
 use Rattle.event.proofs.Turns.{at-word}
 use Rattle.frs_layout.specs.Event.{Module, empty}
 use Rattle.frs_layout.specs.Reading.{blockOf, headerOf, values, footer, body, oneModule}

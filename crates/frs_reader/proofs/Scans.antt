@@ -14,10 +14,10 @@ use Rattle.event.specs.declared.Answer.{Answer}
 use Rattle.event.specs.declared.Answer.the-variants as answer
 use Rattle.event.specs.declared.Row.{Row}
 use Rattle.event.specs.Parser.{Result, ok, refuse, ended, filled, many, each}
-use Rattle.event.specs.Channels.{insert}
+use Rattle.event.specs.Channels.{insert, Blocked}
 use Rattle.event.specs.Rows.{row, storeRow}
 use Rattle.event.specs.Scanning.{storeRows, Scanned}
-use Rattle.event.proofs.ChannelLaws.{Blocked, blocked-more}
+use Rattle.event.proofs.ChannelLaws.{blocked-more}
 use Rattle.event.proofs.Elements.{each-map}
 use Rattle.event.proofs.Ends.{ends-many}
 use Rattle.event.proofs.Impossible.{impossible}

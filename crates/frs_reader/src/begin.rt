@@ -6,6 +6,7 @@ use event::Part;
 use event::Row;
 use event::kind;
 use event::refusal;
+use event::refuse_part;
 use event::rows::store_row;
 ghost use Prim.Native.Nat.{_+_, _≤_};
 ghost use mathlib.Core.Path.{_≡_};
@@ -77,15 +78,15 @@ fn scaler(words: &[u32], rows: &mut [u32]) -> Part
 {
     let header = word(words, 4);
     if header < frs_format::SCALER_HEADER_LEAST {
-        return refuse(refusal::TAG, 4);
+        return refuse_part(refusal::TAG, 4);
     }
     if frs_format::SCALER_HEADER_MOST < header {
-        return refuse(refusal::TAG, 4);
+        return refuse_part(refusal::TAG, 4);
     }
     let count = header - frs_format::SCALER_HEADER;
     let n = count as usize;
     if words.len() < n + 6 {
-        return refuse(refusal::EXTENT, 4);
+        return refuse_part(refusal::EXTENT, 4);
     }
     let row = Row {
         kind: kind::SCALER_BLOCK,
@@ -96,18 +97,12 @@ fn scaler(words: &[u32], rows: &mut [u32]) -> Part
     store_row(rows, 1, row);
     store_scalers(words, n, rows);
     if word(words, 5 + n) != frs_format::SCALER_END {
-        return refuse(refusal::INNER, 5 + n);
+        return refuse_part(refusal::INNER, 5 + n);
     }
     Part::Done {
         next: 6 + n,
         count: 2 + n,
     }
-}
-
-fn refuse(number: u32, place: usize) -> Part
-    ensures { λ r. ⌜ r ≡ Part.Refused number place ⌝ }
-{
-    Part::Refused { number, place }
 }
 
 // The pattern unit, where the longword after the scaler has GEO 5.
@@ -123,21 +118,21 @@ fn pattern_unit(words: &[u32], at: usize, rows: &mut [u32], count: usize) -> Par
         return Part::Done { next: at, count };
     }
     if header != frs_format::PATTERN_HEADER {
-        return refuse(refusal::TAG, at);
+        return refuse_part(refusal::TAG, at);
     }
     if words.len() - at < 4 {
-        return refuse(refusal::EXTENT, at);
+        return refuse_part(refusal::EXTENT, at);
     }
     let register = word(words, at + 1);
     if !is_under(frs_format::PATTERN_REGISTER, register) {
-        return refuse(refusal::DATA, at + 1);
+        return refuse_part(refusal::DATA, at + 1);
     }
     let multiplicity = word(words, at + 2);
     if !is_under(frs_format::PATTERN_MULTIPLICITY, multiplicity) {
-        return refuse(refusal::DATA, at + 2);
+        return refuse_part(refusal::DATA, at + 2);
     }
     if word(words, at + 3) != frs_format::PATTERN_END {
-        return refuse(refusal::INNER, at + 3);
+        return refuse_part(refusal::INNER, at + 3);
     }
     let row = Row {
         kind: kind::PATTERN_UNIT,
@@ -156,20 +151,20 @@ fn pattern_unit(words: &[u32], at: usize, rows: &mut [u32], count: usize) -> Par
 pub(crate) fn begin(words: &[u32], rows: &mut [u32]) -> Part
     ensures { λ r. ⌜ Begins (now (words .entry)) (now (rows .entry)) (now (rows .exit)) r ⌝ }
 {
-    if words.len() < 7 {
-        return refuse(refusal::SIZE, 0);
+    if words.len() < frs_format::SMALLEST_EVENT {
+        return refuse_part(refusal::SIZE, 0);
     }
-    if 1062 < words.len() {
-        return refuse(refusal::SIZE, 0);
+    if frs_format::LARGEST_EVENT < words.len() {
+        return refuse_part(refusal::SIZE, 0);
     }
     let wrong = stamp_fault(words);
     if wrong != 4 {
-        return refuse(refusal::DATA, wrong);
+        return refuse_part(refusal::DATA, wrong);
     }
     store_stamp(words, rows);
     let scaled = scaler(words, rows);
     match scaled {
-        Part::Refused { number, place } => refuse(number, place),
+        Part::Refused { number, place } => refuse_part(number, place),
         Part::Done { next: at, count } => pattern_unit(words, at, rows, count),
     }
 }

@@ -19,13 +19,14 @@ use Rattle.event.specs.Demands.{InWidth}
 use Rattle.event.proofs.Leads.{leads-part, store-append, scanned-refuse}
 use Rattle.event.proofs.RowJudged.{row-taken, row-refused}
 use Rattle.event.proofs.Sequences.{codes-optionally}
-use Rattle.event.proofs.WritingTurns.{placed, Wrote, wrote, unwritten}
+use Rattle.event.proofs.Ends.{placed}
+use Rattle.event.proofs.WritingTurns.{Wrote, wrote, unwritten, all-refused, all-done}
 use Rattle.frs_layout.specs.Event.{Stamp, PatternUnit, Event}
 use Rattle.frs_layout.specs.Layout.{stampWords, scalerWords, patternWords, moduleWords, words, stampRow, stampChecks, geos, largestEvent}
-use Rattle.frs_layout.specs.Writing.{stamp, scaler, patternUnit, atPattern, oneModule, eventRowsUpTo}
+use Rattle.frs_layout.specs.Writing.{stampOf, stamp, scaler, patternUnit, atPattern, oneModule, eventRowsUpTo}
 use Rattle.frs_layout.proofs.Rows.{codes-scaler, codes-pattern, codes-one}
 use Rattle.frs_layout.proofs.Width.{words-fit}
-use Rattle.frs_writer.specs.Faults.{stampOf, stampFault}
+use Rattle.frs_writer.specs.Faults.{stampFault}
 use Rattle.frs_writer.specs.Parts.{Begins}
 
 -- the longwords before the modules
@@ -118,12 +119,10 @@ module _ {rs : List Row} {before b : List ℕ} {part : Part} (s : Begins rs befo
       whole = (rw q at s) .begun .2 .leads x after (m .scanned)
 
       pub event-refused : {n p : ℕ} → x ≡ Refused n p → Laid (answer.Refused n p) after
-      event-refused z = scanned-refuse words 0 before after (unwritten 32 words (eventRowsUpTo ended 0 rs) (rw z at whole))
+      event-refused = all-refused 32 words whole
 
       pub event-laid : {j e : ℕ} → x ≡ Done j e → Laid (answer.Accepted e) after
-      event-laid z =
-          let t = wrote 32 words (eventRowsUpTo ended 0 rs) (rw z at whole) in
-          rw (t .parsed) (record { answered = ap answer.Accepted (t .counted); stored = t .stored })
+      event-laid = all-done 32 words whole
 
 -- what an event taken is written as
 pub event-fits : (rs : List Row) (e : Event) (j : ℕ) (r : List Row) → eventRowsUpTo ended 0 rs ≡ ok e j r → length (words e) ≤ largestEvent → InWidth 32 (words e)

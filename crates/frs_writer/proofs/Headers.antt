@@ -5,17 +5,19 @@ use native.Mathlib.Omega.{arith}
 use mathlib.Core.Path.{_≡_, refl, sym, _∙_}
 use mathlib.Core.Bool.{Bool, true, false, not}
 use mathlib.Core.List.{List, [], _∷_, _++_}
-use lib.Dec.{eqb, ltb, leb, ltb→lt, leb→le}
+use lib.Dec.{eqb, ltb, ltb→lt, leb→le}
 use borrow.Author.Tests.{eq-eqb, ne-eqb, eqb-true, eqb-false, lt-ltb, le-leb}
 use Rattle.event.specs.declared.Row.{Row}
 use Rattle.event.specs.Parser.{Test, test, faultIn}
+use Rattle.event.specs.Channels.{Blocked}
 use Rattle.event.specs.Writing.{sameRow, rowTests, ofKind}
+use Rattle.event.proofs.RowCodes.{same-fields, fields-same}
+use Rattle.event.proofs.RowFaults.{one-fails, all-hold}
 use Rattle.frs_layout.specs.Event.{scalerGeo, patternGeo}
 use Rattle.frs_layout.specs.Layout.{emptyRow, moduleRow, countChecks, counterChecks, geoChecks}
 use Rattle.frs_layout.specs.Writing.{startsModule, headerOf, firstRow, headerChecks}
-use Rattle.frs_writer.specs.Parts.{SetOf}
 use Rattle.frs_writer.specs.Faults.{geoFault, headerFieldFault, unlessSeen, headerFault}
-use Rattle.frs_writer.proofs.Faults.{one-fails, all-hold, same-fields, fields-same, found-first, seen-last}
+use Rattle.frs_writer.proofs.Faults.{found-first, seen-last}
 
 module _ (r : Row) where
   -- the tests after the kind
@@ -76,7 +78,7 @@ module _ (r : Row) where
         go false p = let z = no-module n (eqb-false (r .kind) 21 p) in absurd (omega (arith, fields-kept))
 
   -- the GEOs before
-  pub header-seen : {set : ℕ} {seen : List ℕ} → SetOf set seen → headerFault set r ≡ faultIn (rowTests startsModule headerOf firstRow (headerChecks seen) r)
+  pub header-seen : {set : ℕ} {seen : List ℕ} → Blocked 0 set seen → headerFault set r ≡ faultIn (rowTests startsModule headerOf firstRow (headerChecks seen) r)
   unfolding headerFault headerFieldFault
   header-seen {set} {seen} s = go (ofKind 20 r) refl
     where

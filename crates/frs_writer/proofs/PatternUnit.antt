@@ -14,10 +14,10 @@ use Rattle.event.specs.Parser.{optionally, ifAny}
 use Rattle.event.specs.Writing.{ofKind, noRow}
 use Rattle.event.specs.Scanning.{storeWords, Writes}
 use Rattle.event.proofs.RowJudged.{row-taken, row-refused}
+use Rattle.event.proofs.WritingTurns.{writes-refused, writes-done}
 use Rattle.frs_layout.specs.Layout.{patternWords, patternRow, patternChecks}
-use Rattle.frs_layout.specs.Writing.{patternUnit, atPattern}
-use Rattle.frs_writer.specs.Faults.{patternOf, patternFault}
-use Rattle.frs_writer.proofs.Parts.{refused-part, done-part}
+use Rattle.frs_layout.specs.Writing.{patternOf, patternUnit, atPattern}
+use Rattle.frs_writer.specs.Faults.{patternFault}
 
 next-row : (rs : List Row) (i : ℕ) → atPattern (drop i rs) ≡ ofKind 19 (getD rs i noRow)
 next-row [] zero = refl
@@ -33,7 +33,7 @@ module _ (rs : List Row) (i k : ℕ) (b : List ℕ) {r : Row} (e : r ≡ getD rs
   Written = Writes 32 (ifAny patternWords) (optionally atPattern patternUnit i (drop i rs)) rs k b
 
   pub no-pattern : (r .kind ≡ 19 → ⊥) → i ≤ length rs → k ≤ 4 * i → Written (Done i k) b
-  no-pattern n l m = done-part (ifAny patternWords) {a = none} {l = drop i rs} (rw (looks, ne-eqb 19 (r .kind) (λ q. n (sym q)))) (omega arith) refl l m
+  no-pattern n l m = writes-done 32 (ifAny patternWords) {a = none} {l = drop i rs} (rw (looks, ne-eqb 19 (r .kind) (λ q. n (sym q)))) refl (omega arith) refl l m
 
   pub pattern-there : 0 ≡ patternFault r → i < length rs
   unfolding patternFault
@@ -42,11 +42,10 @@ module _ (rs : List Row) (i k : ℕ) (b : List ℕ) {r : Row} (e : r ≡ getD rs
   module _ (is : r .kind ≡ 19) where
     pub pattern-refused : {m : ℕ} {part : Part} (after : List ℕ) → m ≡ patternFault r → (m ≡ 0 → ⊥) → part ≡ Refused m i → Written part after
     unfolding patternFault
-    pattern-refused after f z q = refused-part (ifAny patternWords) after q
-        (rw (looks, eq-eqb 19 (r .kind) (sym is), row-refused (ofKind 19) patternOf patternRow (patternChecks 22) refl (λ p. (tt, (tt, tt))) rs i e f z))
+    pattern-refused after f z q = writes-refused 32 (ifAny patternWords) (rw (looks, eq-eqb 19 (r .kind) (sym is), row-refused (ofKind 19) patternOf patternRow (patternChecks 22) refl (λ p. (tt, (tt, tt))) rs i e f z)) q
 
     pub pattern-done : {after : List ℕ} → 0 ≡ patternFault r → k ≤ 4 * i → after ≡ storeWords 32 b k (patternWords (patternOf r)) → Written (Done (i + 1) (k + 4)) after
     unfolding patternFault
     pattern-done f m s =
         let t = row-taken (ofKind 19) patternOf patternRow (patternChecks 22) refl (λ p. (tt, (tt, tt))) rs i e f in
-        done-part (ifAny patternWords) {a = some (patternOf r)} {l = drop (i + 1) rs} (rw (looks, eq-eqb 19 (r .kind) (sym is), t .1)) refl s (omega arith) (omega arith)
+        writes-done 32 (ifAny patternWords) {a = some (patternOf r)} {l = drop (i + 1) rs} (rw (looks, eq-eqb 19 (r .kind) (sym is), t .1)) refl refl s (omega arith) (omega arith)

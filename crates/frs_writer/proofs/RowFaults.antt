@@ -9,12 +9,14 @@ use lib.Dec.{ltb, leb→le, le→leb, ltb→lt, lt→ltb}
 use borrow.Author.Tests.{lt-ltb, ne-eqb}
 use Rattle.event.specs.declared.Row.{Row}
 use Rattle.event.specs.Parser.{test, faultIn}
+use Rattle.event.specs.Channels.{Blocked}
 use Rattle.event.specs.Writing.{sameRow, rowTests, ofKind}
+use Rattle.event.proofs.RowFaults.{one-fails, Judged, judged}
 use Rattle.frs_layout.specs.Event.{scalerGeo, patternGeo}
 use Rattle.frs_layout.specs.Layout.{datumBits, stampRow, scalerBlockRow, scalerRow, patternRow, valueRow, stampChecks, countChecks, scalerChecks, patternChecks, geoChecks, valueChecks}
-use Rattle.frs_writer.specs.Faults.{stampOf, patternOf, valueOf, stampFault, blockFault, scalerFault, patternFault, geoFault, valueFieldFault, valueFault}
-use Rattle.frs_writer.specs.Parts.{SetOf}
-use Rattle.frs_writer.proofs.Faults.{one-fails, Judged, judged, found-first, seen-last}
+use Rattle.frs_layout.specs.Writing.{stampOf, patternOf, valueOf}
+use Rattle.frs_writer.specs.Faults.{stampFault, blockFault, scalerFault, patternFault, geoFault, valueFieldFault, valueFault}
+use Rattle.frs_writer.proofs.Faults.{found-first, seen-last}
 
 ruleset tests = (arith, ltb→lt, lt→ltb, leb→le, le→leb)
 
@@ -53,7 +55,7 @@ pub field-judged : (g : ℕ) (r : Row) → Judged (valueFieldFault g r) (r .kind
 unfolding valueFieldFault
 field-judged g r = judged 22 valueOf (valueRow g) (valueChecks 22 22 []) r (refl, (refl, (refl, tt))) (λ p. omega tests) (λ e f. ((e, f .0, refl, refl), omega tests))
 
-pub value-seen : (g : ℕ) (r : Row) {set : ℕ} {seen : List ℕ} → SetOf set seen → valueFault g set r ≡ faultIn (rowTests (ofKind 22) valueOf (valueRow g) (valueChecks 22 22 seen) r)
+pub value-seen : (g : ℕ) (r : Row) {set : ℕ} {seen : List ℕ} → Blocked 0 set seen → valueFault g set r ≡ faultIn (rowTests (ofKind 22) valueOf (valueRow g) (valueChecks 22 22 seen) r)
 unfolding valueFault valueFieldFault
 value-seen g r s = seen-last s (r .channel)
     (test 21 (ofKind 22 r) ∷ test 22 (sameRow r (valueRow g (valueOf r))) ∷ test 22 (ltb (r .channel) (2 ^ 5)) ∷ test 22 (ltb (r .datum) (2 ^ datumBits)) ∷ [])

@@ -9,30 +9,30 @@ use Rattle.event.specs.declared.Part.{Part}
 use Rattle.event.specs.declared.Part.the-variants.{Done, Refused}
 use Rattle.event.specs.declared.Row.{Row}
 use Rattle.event.specs.Parser.{Result, ok, times, each}
-use Rattle.event.specs.Words.{storeWord}
+use Rattle.event.specs.Words.{wordAlone, storeWord}
 use Rattle.event.specs.Writing.{rowWith, ofKind, noRow}
 use Rattle.event.specs.Scanning.{storeWords, Writes}
-use Rattle.event.proofs.Elements.{each-map, map-self}
+use Rattle.event.proofs.Elements.{each-alone}
 use Rattle.event.proofs.RowJudged.{rows-from, row-taken, row-refused}
-use Rattle.event.proofs.WritingTurns.{counted, WritesOn, rows-done, rows-refused, rows-taken, placed, Wrote, wrote, unwritten}
+use Rattle.event.proofs.Ends.{placed}
+use Rattle.event.proofs.WritingTurns.{counted, WritesOn, rows-done, rows-refused, rows-taken, Wrote, wrote, unwritten, writes-refused, writes-done}
 use Rattle.frs_layout.specs.Event.{scalerGeo, scalerEnd}
 use Rattle.frs_layout.specs.Layout.{headerWord, scalerWords, scalerRow, scalerRowsFrom, scalerBlockRow, countChecks, scalerChecks}
 use Rattle.frs_layout.specs.Writing.{scalerAt, nextIndex, scaler}
 use Rattle.frs_layout.proofs.Rows.{codes-scaler}
 use Rattle.frs_writer.specs.Faults.{blockFault, scalerFault}
-use Rattle.frs_writer.specs.Parts.{scalerWord}
-use Rattle.frs_writer.proofs.Parts.{refused-part, done-part, block-stored, one-more, no-more}
+use Rattle.frs_writer.proofs.Parts.{block-stored, one-more, no-more}
 
 -- `index` of n scalers are stored
 abbrev Stored : (n index : ℕ) → ℕ × ℕ → Type 0
 Stored n index s = (s .0 + index ≡ n) × (s .1 ≡ index)
 
 abbrev pub Scalers : List Row → (n index : ℕ) → List ℕ → ℕ → ℕ → List ℕ → Type 0
-Scalers rs n index = WritesOn 32 (counted scalerAt nextIndex) scalerWord (Stored n index) rs (n, 0) 2 5
+Scalers rs n index = WritesOn 32 (counted scalerAt nextIndex) wordAlone (Stored n index) rs (n, 0) 2 5
 
 module _ {rs : List Row} {n index i k : ℕ} {b₀ b : List ℕ} (h : Scalers rs n index b₀ i k b) where
   abbrev Written : Part → List ℕ → Type 0
-  Written = Writes 32 (each scalerWord) (times scalerAt nextIndex n 0 2 (drop 2 rs)) rs 5 b₀
+  Written = Writes 32 (each wordAlone) (times scalerAt nextIndex n 0 2 (drop 2 rs)) rs 5 b₀
 
   pub scalers-done : n ≤ index → Written (Done i k) b
   scalers-done l = rows-done 32 h (no-more scalerAt nextIndex (h .state) i (drop i rs) (let s = h .holds in omega arith))
@@ -67,7 +67,7 @@ module _ (rs : List Row) (b : List ℕ) {r : Row} (e : r ≡ getD rs 1 noRow) wh
   unfolding blockFault
   block-refused after f z q =
       let u = row-refused (ofKind 17) (λ r. r .channel) scalerBlockRow (countChecks 22) refl (λ n. (tt, (tt, tt))) rs 1 e f z in
-      refused-part scalerWords after q (rw u)
+      writes-refused 32 scalerWords (rw u) q
 
   module _ (f : 0 ≡ blockFault r) where
     block-taken : (1 < length rs) × (rowWith (ofKind 17) (λ r. r .channel) scalerBlockRow (countChecks 22) 1 (drop 1 rs) ≡ ok (r .channel) 2 (drop 2 rs))
@@ -83,13 +83,13 @@ module _ (rs : List Row) (b : List ℕ) {r : Row} (e : r ≡ getD rs 1 noRow) wh
     block-is : scaler 1 (drop 1 rs) ≡ values
     block-is = rw (block-taken .1)
 
-    module _ {b₁ b₂ : List ℕ} {given : Part} (s : Writes 32 (each scalerWord) values rs 5 b₁ given b₂) where
+    module _ {b₁ b₂ : List ℕ} {given : Part} (s : Writes 32 (each wordAlone) values rs 5 b₁ given b₂) where
       pub scalers-refused : {m p : ℕ} {part : Part} (after : List ℕ) → given ≡ Refused m p → part ≡ Refused m p → BlockWritten part after
-      scalers-refused after q z = refused-part scalerWords after z (block-is ∙ unwritten 32 (each scalerWord) values ((rw q at s) .scanned))
+      scalers-refused after q z = writes-refused 32 scalerWords (block-is ∙ unwritten 32 (each wordAlone) values ((rw q at s) .scanned)) z
 
       module _ {j k : ℕ} (q : given ≡ Done j k) where
-        these : Wrote 32 (each scalerWord) values 5 b₁ j k b₂
-        these = wrote 32 (each scalerWord) values ((rw q at s) .scanned)
+        these : Wrote 32 (each wordAlone) values 5 b₁ j k b₂
+        these = wrote 32 (each wordAlone) values ((rw q at s) .scanned)
 
         -- as many as the block's row says
         size : (length (these .value) ≡ r .channel) × (j ≡ 2 + length (these .value)) × (j ≤ length rs) × (k ≡ 5 + length (these .value))
@@ -99,12 +99,12 @@ module _ (rs : List Row) (b : List ℕ) {r : Row} (e : r ≡ getD rs 1 noRow) wh
             let u = placed codes-scaler rs 1 (omega (arith, block-taken .0)) p in
             let w = codes-scaler .sound 1 (drop 1 rs) (t .value) j (t .input) p .1 in
             let v : scalerBlockRow (length (t .value)) ≡ r = cc (w, rows-from rs 1 (block-taken .0), e) in
-            (ap (λ (x : Row). x .channel) v, omega (arith, u .1, rows-of 0 (t .value)), u .2, t .counted ∙ rw (each-map (λ (x : ℕ). x) (t .value), map-self))
+            (ap (λ (x : Row). x .channel) v, omega (arith, u .1, rows-of 0 (t .value)), u .2, t .counted ∙ rw (each-alone (t .value)))
 
         pub block-done : {b₃ : List ℕ} → b₁ ≡ storeWord 32 b 4 (headerWord scalerGeo (r .channel)) → b₃ ≡ storeWord 32 b₂ k scalerEnd → BlockWritten (Done j (k + 1)) b₃
         block-done first last =
             let t = these in
             let vs = t .value in
-            let same : each scalerWord vs ≡ vs = each-map (λ (x : ℕ). x) vs ∙ map-self vs in
-            done-part scalerWords (block-is ∙ t .parsed) (omega (arith, size .3, length-append vs (scalerEnd ∷ [])))
+            let same = each-alone vs in
+            writes-done 32 scalerWords (block-is ∙ t .parsed) refl (omega (arith, size .3, length-append vs (scalerEnd ∷ [])))
             (block-stored b 4 (headerWord scalerGeo (length vs)) vs scalerEnd (first ∙ ap (λ (n : ℕ). storeWord 32 b 4 (headerWord scalerGeo n)) (sym (size .0))) (t .stored ∙ ap (storeWords 32 b₁ 5) same) (size .3) last) (size .2) (omega (arith, size .1, size .3))

@@ -9,17 +9,17 @@ use Rattle.event.specs.declared.Part.{Part}
 use Rattle.event.specs.declared.Part.the-variants.{Done, Refused}
 use Rattle.event.specs.declared.Row.{Row}
 use Rattle.event.specs.Parser.{times, each}
-use Rattle.event.specs.Channels.{insert}
+use Rattle.event.specs.Channels.{insert, Blocked}
 use Rattle.event.specs.Words.{storeWord}
 use Rattle.event.specs.Writing.{ofKind, noRow}
 use Rattle.event.specs.Scanning.{Writes}
-use Rattle.event.proofs.ChannelLaws.{Blocked, blocked-more, seen-only}
+use Rattle.event.proofs.ChannelLaws.{blocked-more}
 use Rattle.event.proofs.RowJudged.{row-taken, row-refused}
 use Rattle.event.proofs.WritingTurns.{counted, WritesOn, rows-done, rows-refused, rows-taken}
 use Rattle.frs_layout.specs.Layout.{longword, valueRow, valueChecks, channels}
-use Rattle.frs_layout.specs.Writing.{value}
-use Rattle.frs_writer.specs.Faults.{valueOf, valueFault}
-use Rattle.frs_writer.specs.Parts.{valueWords, SetOf}
+use Rattle.frs_layout.specs.Writing.{valueOf, value}
+use Rattle.frs_writer.specs.Faults.{valueFault}
+use Rattle.frs_writer.specs.Parts.{valueWords}
 use Rattle.frs_writer.proofs.Parts.{one-more, no-more}
 use Rattle.frs_writer.proofs.RowFaults.{value-seen, value-fields}
 
@@ -41,18 +41,15 @@ module _ (g : ℕ) {rs : List Row} {n left set first i k : ℕ} {b₀ b : List �
     one : h .state .0 ≡ suc (left - 1)
     one = let s = h .holds .0 in omega arith
 
-    seen : SetOf set (h .state .1)
-    seen = record { holds = seen-only (h .holds .1) }
-
     pub value-refused : {m : ℕ} {part : Part} (after : List ℕ) → m ≡ valueFault g set r → (m ≡ 0 → ⊥) → part ≡ Refused m i → Written part after
     value-refused after f z q = rw q (rows-refused 32 h (one-more (value g) channels (h .state) i (drop i rs) (left - 1) one) after
-        (row-refused (ofKind 22) valueOf (valueRow g) (valueChecks 22 22 (h .state .1)) refl (λ v. (tt, (tt, (tt, tt)))) rs i e (f ∙ value-seen g r seen) z))
+        (row-refused (ofKind 22) valueOf (valueRow g) (valueChecks 22 22 (h .state .1)) refl (λ v. (tt, (tt, (tt, tt)))) rs i e (f ∙ value-seen g r (h .holds .1)) z))
 
     pub value-taken : {w set′ : ℕ} {b′ : List ℕ} → 0 ≡ valueFault g set r → w ≡ longword g 0 (r .channel * 2 ^ 16 + r .datum) → b′ ≡ storeWord 32 b k w → set′ ≡ insert set (r .channel % 32)
         → length b′ ≡ length b → Values g rs n (left - 1) set′ first b₀ (i + 1) (k + 1) b′
     value-taken f w q s z =
         let few = h .few in
         let low : r .channel % 32 ≡ r .channel = omega (arith, value-fields g set r f) in
-        let t = row-taken (ofKind 22) valueOf (valueRow g) (valueChecks 22 22 (h .state .1)) refl (λ v. (tt, (tt, (tt, tt)))) rs i e (f ∙ value-seen g r seen) in
+        let t = row-taken (ofKind 22) valueOf (valueRow g) (valueChecks 22 22 (h .state .1)) refl (λ v. (tt, (tt, (tt, tt)))) rs i e (f ∙ value-seen g r (h .holds .1)) in
         rows-taken 32 h (one-more (value g) channels (h .state) i (drop i rs) (left - 1) one) {a = valueOf r} (t .1)
         (rw one refl, rw (s, low) (blocked-more (r .channel) (h .holds .1))) (omega arith) (omega arith) refl (q ∙ ap (storeWord 32 b k) w) z

@@ -8,19 +8,8 @@ use Rattle.event.specs.declared.Row.{Row}
 use Rattle.event.specs.Parser.{faultIn}
 use Rattle.event.specs.Channels.{present}
 use Rattle.event.specs.Writing.{rowTests, ofKind}
-use Rattle.frs_layout.specs.Event.{Stamp, PatternUnit, Value}
 use Rattle.frs_layout.specs.Layout.{stampRow, scalerBlockRow, scalerRow, patternRow, valueRow, stampChecks, countChecks, scalerChecks, patternChecks, geoChecks, valueChecks}
-use Rattle.frs_layout.specs.Writing.{startsModule, headerOf, firstRow, headerChecks}
-
--- the fields of a row
-abbrev pub stampOf : Row → Stamp
-stampOf r = record { word1 = r .unit; word2 = r .channel; word3 = r .datum }
-
-abbrev pub patternOf : Row → PatternUnit
-patternOf r = record { register = r .datum; multiplicity = r .channel }
-
-abbrev pub valueOf : Row → Value
-valueOf r = record { channel = r .channel; datum = r .datum }
+use Rattle.frs_layout.specs.Writing.{stampOf, patternOf, valueOf, startsModule, headerOf, firstRow, headerChecks}
 
 -- the first rule of a row that fails
 unfoldable pub stampFault : Row → ℕ

@@ -2,33 +2,25 @@
 -- Assumes nothing.
 use Prim.Native.Nat.{ℕ, _*_, _≤_}
 use mathlib.Core.Path.{_≡_}
-use mathlib.Core.Bool.{not}
 use mathlib.Core.List.{List, [], _∷_}
 use lib.ListN.{length, drop}
 use Rattle.event.specs.declared.Part.{Part}
 use Rattle.event.specs.declared.Part.the-variants.{Done, Refused}
 use Rattle.event.specs.declared.Row.{Row}
-use Rattle.event.specs.Parser.{refuse, ended, many, each, fresh}
-use Rattle.event.specs.Channels.{present}
+use Rattle.event.specs.Parser.{refuse, ended, many, each}
+use Rattle.event.specs.Channels.{Blocked}
 use Rattle.event.specs.Scanning.{LeadsBy, writingPart, Writes}
 use Rattle.frs_layout.specs.Event.{Value}
 use Rattle.frs_layout.specs.Layout.{valueWord, moduleWords, words, geos}
 use Rattle.frs_layout.specs.Writing.{oneModule, eventRowsUpTo}
 
--- one item, one longword
-abbrev pub scalerWord : ℕ → List ℕ
-scalerWord v = v ∷ []
-
+-- the longword of one value
 abbrev pub valueWords : (geo : ℕ) → Value → List ℕ
 valueWords g v = valueWord g v ∷ []
 
--- the set holds the GEOs, or the channels, that were seen
-pub record SetOf (set : ℕ) (seen : List ℕ) : Type 0 where
-  pub holds : (k : ℕ) → fresh k seen ≡ not (present set k)
-
 -- the module at row i, after the GEOs that are in the set
 pub record WritesModule (set : ℕ) (rs : List Row) (i : ℕ) (before : List ℕ) (r : Part) (after : List ℕ) : Type 0 where
-  pub writes : (seen : List ℕ) → SetOf set seen → Writes 32 moduleWords (oneModule seen i (drop i rs)) rs 0 before r after
+  pub writes : (seen : List ℕ) → Blocked 0 set seen → Writes 32 moduleWords (oneModule seen i (drop i rs)) rs 0 before r after
 
 -- what stands before the modules is refused; or the writing of the modules ends as that of the event does
 abbrev pub Begun : List Row → List ℕ → List ℕ → Part → Type 0

@@ -1,7 +1,6 @@
 // The event's first blocks: the stamp, the scaler, the pattern unit where there is one.
 use crate::fault::block_fault;
 use crate::fault::pattern_fault;
-use crate::fault::refuse;
 use crate::fault::scaler_fault;
 use crate::fault::stamp_fault;
 use crate::longword::halves;
@@ -9,6 +8,7 @@ use crate::longword::store_four;
 use event::Part;
 use event::Row;
 use event::kind;
+use event::refuse_part;
 use event::rows::row_at;
 use event::words::store_word32;
 ghost use Prim.Native.Nat.{_+_, _*_, _^_, _≤_, _<_};
@@ -16,12 +16,12 @@ ghost use mathlib.Core.Path.{_≡_};
 ghost use lib.ListN.{length, drop};
 ghost use denote.Ref.{now};
 ghost use Rattle.event.specs.Parser.{optionally, times, each, ifAny};
+ghost use Rattle.event.specs.Words.{wordAlone};
 ghost use Rattle.event.specs.Writing.{rowsIn};
 ghost use Rattle.event.specs.Scanning.{storeWords, Writes};
 ghost use Rattle.frs_layout.specs.Layout.{stampWords, scalerWords, patternWords};
-ghost use Rattle.frs_layout.specs.Writing.{scalerAt, nextIndex, scaler, patternUnit, atPattern};
-ghost use Rattle.frs_writer.specs.Faults.{stampOf, patternOf};
-ghost use Rattle.frs_writer.specs.Parts.{scalerWord, Begins};
+ghost use Rattle.frs_layout.specs.Writing.{stampOf, patternOf, scalerAt, nextIndex, scaler, patternUnit, atPattern};
+ghost use Rattle.frs_writer.specs.Parts.{Begins};
 
 fn store_stamp(words: &mut [u32], row: Row)
     requires { ⌜ (row .unit < 2 ^ 16) × (row .channel < 2 ^ 16) × (row .datum < 2 ^ 16) ⌝ }
@@ -36,7 +36,7 @@ fn store_stamp(words: &mut [u32], row: Row)
 // The n scalers from row 2 on, as longwords from longword 5 on.
 fn scalers(rows: &[u32], n: u32, words: &mut [u32]) -> Part
     requires { ⌜ (n ≤ 32) × (2 ≤ length (rowsIn (now rows))) ⌝ }
-    ensures { λ r. ⌜ Writes 32 (each scalerWord) (times scalerAt nextIndex n 0 2 (drop 2 (rowsIn (now (rows .entry))))) (rowsIn (now (rows .entry))) 5 (now (words .entry)) r (now (words .exit)) ⌝ }
+    ensures { λ r. ⌜ Writes 32 (each wordAlone) (times scalerAt nextIndex n 0 2 (drop 2 (rowsIn (now (rows .entry))))) (rowsIn (now (rows .entry))) 5 (now (words .entry)) r (now (words .exit)) ⌝ }
 {
     let mut index: u32 = 0;
     let mut i: usize = 2;
@@ -45,7 +45,7 @@ fn scalers(rows: &[u32], n: u32, words: &mut [u32]) -> Part
         let row = row_at(rows, i);
         let number = scaler_fault(index, row);
         if number != 0 {
-            return refuse(number, i);
+            return refuse_part(number, i);
         }
         store_word32(words, at, row.datum);
         index += 1;
@@ -63,12 +63,12 @@ fn scaler(rows: &[u32], words: &mut [u32]) -> Part
     let row = row_at(rows, 1);
     let number = block_fault(row);
     if number != 0 {
-        return refuse(number, 1);
+        return refuse_part(number, 1);
     }
     store_word32(words, 4, frs_format::SCALER_HEADER + row.channel);
     let scaled = scalers(rows, row.channel, words);
     match scaled {
-        Part::Refused { number, place } => refuse(number, place),
+        Part::Refused { number, place } => refuse_part(number, place),
         Part::Done { next, count } => {
             store_word32(words, count, frs_format::SCALER_END);
             Part::Done {
@@ -106,7 +106,7 @@ fn pattern_unit(rows: &[u32], at: usize, words: &mut [u32], count: usize) -> Par
     }
     let number = pattern_fault(row);
     if number != 0 {
-        return refuse(number, at);
+        return refuse_part(number, at);
     }
     store_pattern(words, count, row);
     Part::Done {
@@ -122,12 +122,12 @@ pub(crate) fn begin(rows: &[u32], words: &mut [u32]) -> Part
     let row = row_at(rows, 0);
     let number = stamp_fault(row);
     if number != 0 {
-        return refuse(number, 0);
+        return refuse_part(number, 0);
     }
     store_stamp(words, row);
     let scaled = scaler(rows, words);
     match scaled {
-        Part::Refused { number, place } => refuse(number, place),
+        Part::Refused { number, place } => refuse_part(number, place),
         Part::Done { next, count } => pattern_unit(rows, next, words, count),
     }
 }

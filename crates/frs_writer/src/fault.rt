@@ -1,5 +1,4 @@
 // The refusal that a row meets where it stands: 21, 22, or 0 for none.
-use event::Part;
 use event::Row;
 use event::channels::contains;
 use event::kind;
@@ -168,10 +167,4 @@ pub(crate) fn value_fault(geo: u32, seen: u32, row: Row) -> u32
     ensures { λ r. ⌜ r ≡ valueFault geo seen row ⌝ }
 {
     unless_seen(value_field_fault(geo, row), seen, row.channel)
-}
-
-pub(crate) fn refuse(number: u32, place: usize) -> Part
-    ensures { λ r. ⌜ r ≡ Part.Refused number place ⌝ }
-{
-    Part::Refused { number, place }
 }

@@ -1,13 +1,13 @@
 // One pass over the rows, which stores a longword only where there is room: with no room it counts.
 use crate::begin::begin;
-use crate::fault::refuse;
 use crate::module::one_module;
 use event::Answer;
 use event::Part;
 use event::channels::with_channel;
+use event::refuse_part;
 use event::rows::row_at;
-ghost use Prim.Native.Nat.{_*_, _≤_, min};
-ghost use mathlib.Core.Path.{_≡_};
+use event::words::part_start;
+ghost use Prim.Native.Nat.{_*_, _≤_};
 ghost use mathlib.Core.List.{[]};
 ghost use lib.ListN.{length, drop};
 ghost use denote.Ref.{now};
@@ -16,12 +16,6 @@ ghost use Rattle.event.specs.Writing.{rowsIn};
 ghost use Rattle.event.specs.Scanning.{writingAll, ScannedBy, Writes};
 ghost use Rattle.frs_layout.specs.Layout.{moduleWords, words as wordsOf, geos};
 ghost use Rattle.frs_layout.specs.Writing.{oneModule, eventRowsUpTo};
-
-fn smaller(a: usize, b: usize) -> usize
-    ensures { λ r. ⌜ r ≡ min a b ⌝ }
-{
-    if a < b { a } else { b }
-}
 
 // The modules from row `first` on, each in the part of the words that starts at its place.
 fn modules(rows: &[u32], first: usize, words: &mut [u32], laid: usize) -> Part
@@ -32,10 +26,10 @@ fn modules(rows: &[u32], first: usize, words: &mut [u32], laid: usize) -> Part
     let mut at = laid;
     let mut seen: u32 = 0;
     while i < rows.len() / 4 {
-        let start = smaller(at, words.len());
+        let start = part_start(at, words.len());
         let given = one_module(rows, i, seen, &mut words[start..]);
         match given {
-            Part::Refused { number, place } => return refuse(number, place),
+            Part::Refused { number, place } => return refuse_part(number, place),
             Part::Done { next, count } => {
                 let row = row_at(rows, i);
                 seen = with_channel(seen, row.unit);

@@ -30,7 +30,7 @@ pub fn write(rows: &[u32], words: &mut [u32]) -> Answer
     let Answer::Accepted(count) = counted else {
         return counted;
     };
-    if 1062 < count {
+    if frs_format::LARGEST_EVENT < count {
         return Answer::Refused {
             number: refusal::LARGE,
             place: count,

@@ -1,11 +1,11 @@
 // One module.
 use crate::fault::header_fault;
-use crate::fault::refuse;
 use crate::fault::value_fault;
 use crate::longword::longword;
 use event::Part;
 use event::channels::with_channel;
 use event::kind;
+use event::refuse_part;
 use event::rows::row_at;
 use event::words::store_word32;
 ghost use Prim.Native.Nat.{_^_, _≤_, _<_};
@@ -32,7 +32,7 @@ fn values(rows: &[u32], first: usize, geo: u32, n: u32, words: &mut [u32]) -> Pa
         let row = row_at(rows, i);
         let number = value_fault(geo, seen, row);
         if number != 0 {
-            return refuse(number, i);
+            return refuse_part(number, i);
         }
         let word = longword(geo, 0, row.channel * 0x0001_0000 + row.datum);
         store_word32(words, at, word);
@@ -52,7 +52,7 @@ pub(crate) fn one_module(rows: &[u32], at: usize, seen: u32, words: &mut [u32]) 
     let row = row_at(rows, at);
     let number = header_fault(seen, row);
     if number != 0 {
-        return refuse(number, at);
+        return refuse_part(number, at);
     }
     if row.kind == kind::EMPTY_MODULE {
         store_word32(words, 0, longword(row.unit, 6, 0));
@@ -64,7 +64,7 @@ pub(crate) fn one_module(rows: &[u32], at: usize, seen: u32, words: &mut [u32]) 
     store_word32(words, 0, longword(row.unit, 2, row.channel));
     let given = values(rows, at + 1, row.unit, row.channel, words);
     match given {
-        Part::Refused { number, place } => refuse(number, place),
+        Part::Refused { number, place } => refuse_part(number, place),
         Part::Done { next, count } => {
             store_word32(words, count, longword(row.unit, 4, row.datum));
             Part::Done {

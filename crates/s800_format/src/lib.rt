@@ -6,6 +6,11 @@ ghost use mathlib.Core.Path.{_≡_};
 ghost use Rattle.s800_layout.specs.Layout.{pad};
 ghost use Rattle.s800_format.specs.Format.{timesFormat, energiesFormat, adcFormat, pairFormat, opaqueTag};
 
+// An event has from 14 to 4,096 words (document 01, 'Dialect S').
+pub const SMALLEST_EVENT: usize = 14;
+
+pub const LARGEST_EVENT: usize = 4096;
+
 // The channel words of a packet: the kind of their rows, the row channel of channel 0, whether the number below the channel has
 // 13 bits and not 12, and the channels not allowed, as a set of bits.
 pub struct Format {

@@ -2,7 +2,7 @@
 -- Assumes nothing.
 use Prim.Native.Nat.{ℕ, _+_, _-_, _/_, _%_, _^_, _≤_}
 use native.Mathlib.Omega.{arith}
-use mathlib.Core.Path.{_≡_, refl, ap, sym, _∙_, subst}
+use mathlib.Core.Path.{_≡_, refl, ap, sym, subst}
 use mathlib.Core.Bool.{Bool, true, false}
 use mathlib.Core.List.{List, [], _∷_, map}
 use lib.Dec.{T, ltb, leb, eqb, ltb→lt, leb→le}
@@ -14,7 +14,7 @@ use Rattle.event.specs.Words.{belowChecks}
 use Rattle.event.proofs.Codes.{Codes, any, At, true-T, same, less, codes-here, codes-require, codes-within, codes-cond}
 use Rattle.event.proofs.Sequences.{codes-bind, codes-map, codes-image}
 use Rattle.event.proofs.Many.{codes-many}
-use Rattle.event.proofs.Elements.{codes-layout, codes-exactly, codes-any, codes-below, prints-map, prints-each, map-self, codes-several, each-map}
+use Rattle.event.proofs.Elements.{codes-layout, codes-exactly, codes-any, codes-below, prints-map, prints-each, codes-several, each-alone}
 use Rattle.s800_layout.specs.Event.{Datum, Trigger, Pair, SampleHead, SampleDatum, Sample, Samples, Anode, Crdc, Registers, Hodoscope, energies, hits, Adc, Form, trigger, timeOfFlight, scintillator, ionChamber, crdc, hodoscope, objectPin, vmeAdc, opaque, Content, Packet, Stamp, Number, stampTag, numberTag, energiesTag, samplesTag, anodeTag, tag, formOf, idOf, patternBound, ChannelFormat, triggerTime, flightTime, pairEnergy, energy16, adcEnergy}
 use Rattle.s800_layout.specs.Layout.{framed, channelWord, datumWord, pairWords, sampleHeadWord, sampleDatumWord, sampleWords, samplesWords, anodeWords, registerWords, contentWords, packetWords, stampWords, numberWords, stampChecks, numberChecks, idChecks, datumChecks, sampleHeadChecks, sampleDatumChecks, sampleChecks, anodeChecks, registerChecks, channels, pairChannels, ValidDatum, ValidData, ValidPair, ValidContent}
 use Rattle.s800_layout.specs.Reading.{allowedLength, packetOf, inner, whole, idWord, datumOf, datum, channelWords, pair, sampleHeadOf, sampleDatumOf, sample, samples, anode, registers, hitsContent, energiesContent, content, packet, stampPacket, numberPacket}
@@ -193,7 +193,7 @@ codes-content objectPin p n = free (less (codes-datum energy16 []) (λ r t. tt))
 codes-content vmeAdc p n = free (same
     (codes-bind (λ c. c .id) (codes-id vmeAdc) (λ id g. codes-map _ (λ c. c .energies) (codes-channels adcEnergy) (λ xs. refl)) (λ id c g. ap (λ (y : Adc). y .id) (g .1)))
     (λ c g. (g .0, g .1 .0)) (λ c g. (g .0, (g .1, refl))) (λ c g. refl))
-codes-content (opaque k) p n = free (same (codes-several ended codes-whole (λ w g r. refl) refl) (λ ws g. g) (λ ws g. g) (λ ws g. each-map (λ w. w) ws ∙ map-self ws))
+codes-content (opaque k) p n = free (same (codes-several ended codes-whole (λ w g r. refl) refl) (λ ws g. g) (λ ws g. g) (λ ws g. each-alone ws))
 
 codes-form : (f : Form) (p n : ℕ) → Codes (At ended) (content f p n >>= λ c. give (record { form = f; content = c })) (λ q. contentWords (q .form) (q .content))
     (λ (q : Packet). (q .form ≡ f) × (ValidContent (q .form) (q .content) × Fits (q .form) n (q .content)))

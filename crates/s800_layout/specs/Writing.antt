@@ -68,11 +68,17 @@ samples = do
   xs ← several sample (atKind 9)
   give (record { threshold = t; samples = xs })
 
+abbrev pub anodeOf : Row → Anode
+anodeOf r = record { energy = r .channel; time = r .datum }
+
 abbrev pub anode : Parser Row Anode
-anode = rowWith (ofKind 9) (λ r. record { energy = r .channel; time = r .datum }) anodeRow (anodeChecks 22)
+anode = rowWith (ofKind 9) anodeOf anodeRow (anodeChecks 22)
+
+abbrev pub registersOf : Row → Registers
+registersOf r = record { a = r .unit; b = r .channel; time = r .datum }
 
 abbrev pub registers : Parser Row Registers
-registers = rowWith (ofKind 10) (λ r. record { a = r .unit; b = r .channel; time = r .datum }) registerRow (registerChecks 22)
+registers = rowWith (ofKind 10) registersOf registerRow (registerChecks 22)
 
 abbrev pub hitsContent : Parser Row Hodoscope
 hitsContent = do

@@ -10,8 +10,8 @@ use lib.Dec.{eqb}
 use lib.Pow.{pow-pos}
 use borrow.Author.Tests.{eq-eqb, lt-ltb}
 use Rattle.event.specs.Parser.{ok, refuse, fresh}
-use Rattle.event.specs.Channels.{present}
-use Rattle.event.proofs.ChannelLaws.{Blocked, among}
+use Rattle.event.specs.Channels.{present, Blocked}
+use Rattle.event.proofs.ChannelLaws.{among}
 use Rattle.s800_layout.specs.Reading.{datumOf, datum}
 use Rattle.s800_format.specs.declared.Format.{Format}
 use Rattle.s800_format.specs.Format.{bitsOf, formatOf}

@@ -14,10 +14,10 @@ use Rattle.event.specs.declared.Answer.{Answer}
 use Rattle.event.specs.declared.Answer.the-variants as answer
 use Rattle.event.specs.declared.StampOrder.{StampOrder}
 use Rattle.event.specs.Parser.{Result, ok, refuse, ended, several, each, alone}
-use Rattle.event.specs.Channels.{insert}
+use Rattle.event.specs.Channels.{insert, Blocked}
 use Rattle.event.specs.Rows.{storeRow}
 use Rattle.event.specs.Scanning.{Scanned}
-use Rattle.event.proofs.ChannelLaws.{Blocked, blocked-more}
+use Rattle.event.proofs.ChannelLaws.{blocked-more}
 use Rattle.event.proofs.Ends.{placed}
 use Rattle.event.proofs.Leads.{refused-scan, scanned-refuse}
 use Rattle.event.proofs.Loops.{to-the-end}
@@ -45,7 +45,7 @@ packet-end : (ws : List ℕ) (i : ℕ) → i < length ws → (q : Packet) (j : �
     → packet i (drop i ws) ≡ ok q (i + getD ws i 0) (slice (i + getD ws i 0) (length ws) ws)
 packet-end ws i h q j r e =
     let s = codes-packet .sound i (drop i ws) q j r e in
-    let p = placed codes-packet ws i q j r (omega arith) e in
+    let p = placed codes-packet ws i (omega arith) e in
     let w : getD ws i 0 ≡ 2 + length (contentWords (q .form) (q .content)) = ap (λ (l : List ℕ). getD l 0 0) (sym (drop-cons ws i 0 h) ∙ s .1) in
     let n : j ≡ i + getD ws i 0 = omega (arith, s .2, w) in
     let m : r ≡ slice (i + getD ws i 0) (length ws) ws = p .0 ∙ ap (λ (l : ℕ). drop l ws) n ∙ to-the-end (i + getD ws i 0) ws in

@@ -13,10 +13,10 @@ use borrow.Author.Tests.{eq-eqb, ne-eqb, lt-ltb, le-ltb}
 use Rattle.event.specs.declared.Answer.{Answer}
 use Rattle.event.specs.declared.Answer.the-variants.{Refused}
 use Rattle.event.specs.Parser.{ok, refuse, then, ended, many, several, each, alone}
-use Rattle.event.specs.Channels.{present, insert, others}
+use Rattle.event.specs.Channels.{present, insert, others, Blocked}
 use Rattle.event.specs.Rows.{row, storeRow}
 use Rattle.event.specs.Scanning.{storeRows, Scanned}
-use Rattle.event.proofs.ChannelLaws.{Blocked, blocked-more}
+use Rattle.event.proofs.ChannelLaws.{blocked-more}
 use Rattle.event.proofs.Turns.{Reached, at-word, step, stop}
 use Rattle.s800_format.proofs.Formats.{pair-format}
 use Rattle.s800_layout.specs.Event.{ChannelFormat, pairEnergy}

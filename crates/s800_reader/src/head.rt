@@ -22,10 +22,10 @@ fn frame(words: &[u16]) -> Answer
     ensures { λ r. ⌜ r ≡ frameOf (now (words .entry)) ⌝ }
 {
     let n = words.len();
-    if n < 14 {
+    if n < s800_format::SMALLEST_EVENT {
         return refuse(refusal::SIZE, 0);
     }
-    if 4096 < n {
+    if s800_format::LARGEST_EVENT < n {
         return refuse(refusal::SIZE, 0);
     }
     if word(words, 0) as usize != n {

@@ -1,22 +1,21 @@
 -- The loop over times or energies: one turn, over plain values.
 -- Assumes nothing.
-use Prim.Native.Nat.{ℕ, _+_, _*_, _-_, _%_, _^_, _≤_, _<_}
+use Prim.Native.Nat.{ℕ, _+_, _-_, _%_, _^_, _≤_, _<_}
 use native.Mathlib.Omega.{arith}
 use mathlib.Core.Path.{_≡_, refl, sym, _∙_}
 use mathlib.Core.Bool.{Bool, true, false, cond, not, _&&_}
 use mathlib.Core.List.{List, [], _∷_, _++_}
-use lib.Dec.{T, eqb, ltb, leb}
+use lib.Dec.{eqb, ltb, leb}
 use lib.ListN.{length, getD, drop}
 use borrow.Author.Tests.{ltb-true, leb-true, ne-eqb}
-use Rattle.event.specs.declared.Part.the-variants.{Done, Refused}
+use Rattle.event.specs.declared.Part.the-variants.{Refused}
 use Rattle.event.specs.declared.Row.{Row}
-use Rattle.event.specs.Channels.{present, insert}
-use Rattle.event.specs.Parser.{ok, refuse, each}
+use Rattle.event.specs.Channels.{present, insert, Blocked}
+use Rattle.event.specs.Parser.{ok, each}
 use Rattle.event.specs.Words.{storeWord}
 use Rattle.event.specs.Scanning.{Writes}
 use Rattle.event.specs.Writing.{ofKind, noRow}
-use Rattle.event.proofs.ChannelLaws.{Blocked, blocked-more}
-use Rattle.event.proofs.Impossible.{impossible}
+use Rattle.event.proofs.ChannelLaws.{blocked-more}
 use Rattle.event.proofs.RowJudged.{row-taken, row-refused}
 use Rattle.event.proofs.Turns.{upToStop}
 use Rattle.event.proofs.WritingTurns.{WritesOn, run-refused, run-taken}

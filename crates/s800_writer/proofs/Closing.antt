@@ -1,12 +1,12 @@
 -- The length and the tag of a packet, set when its words are counted.
 -- Assumes nothing.
-use Prim.Native.Nat.{ℕ, suc, _+_, _*_, _-_, _≤_, _<_}
+use Prim.Native.Nat.{ℕ, _+_, _-_}
 use native.Mathlib.Omega.{arith}
-use mathlib.Core.Path.{_≡_, refl, sym, ap, _∙_}
-use mathlib.Core.List.{List, [], _∷_}
+use mathlib.Core.Path.{_≡_, ap, _∙_}
+use mathlib.Core.List.{List, _∷_}
 use lib.ListN.{length}
 use Rattle.event.specs.declared.Part.{Part}
-use Rattle.event.specs.declared.Part.the-variants.{Done, Refused}
+use Rattle.event.specs.declared.Part.the-variants.{Done}
 use Rattle.event.specs.declared.Row.{Row}
 use Rattle.event.specs.Parser.{Result, ok, refuse}
 use Rattle.event.specs.Words.{storeWord}
@@ -24,7 +24,7 @@ framed-last b ws at tag n e =
     ∙ ap (λ (k : ℕ). storeWords 16 (storeWord 16 (storeWord 16 b at n) (at + 1) tag) k ws) two
     ∙ ap (λ (m : ℕ). storeWords 16 b at (m ∷ tag ∷ ws)) e
 
-pub closed-scan : {A : Type 0} (f : A → List ℕ) (at tag : ℕ) (x : Result Row A) {b b′ b″ : List ℕ} {r r′ : Part} → ScannedBy (writingPart 16) f x (at + 2) b r b′ → r′ ≡ r → b″ ≡ closed at tag r b′
+closed-scan : {A : Type 0} (f : A → List ℕ) (at tag : ℕ) (x : Result Row A) {b b′ b″ : List ℕ} {r r′ : Part} → ScannedBy (writingPart 16) f x (at + 2) b r b′ → r′ ≡ r → b″ ≡ closed at tag r b′
     → ScannedBy (writingPart 16) (λ a. framed tag (f a)) x at b r′ b″
 closed-scan f at tag (refuse n p) s q c = record { answered = q ∙ s .answered; stored = tt }
 closed-scan f at tag (ok a j l) {b} {b′} {b″} {r} s q c =

@@ -2,21 +2,22 @@
 -- Assumes nothing.
 use Prim.Native.Nat.{ℕ, suc, _+_, _*_, _^_, _≤_, _<_}
 use native.Mathlib.Omega.{arith}
-use mathlib.Core.Path.{_≡_, refl, sym, ap, _∙_}
-use mathlib.Core.List.{List, [], _∷_, _++_}
+use mathlib.Core.Path.{_≡_, refl, ap, _∙_}
+use mathlib.Core.List.{List, [], _∷_}
 use lib.ListN.{length, getD, drop}
 use Rattle.event.specs.declared.Part.{Part}
 use Rattle.event.specs.declared.Part.the-variants.{Done, Refused}
 use Rattle.event.specs.declared.Row.{Row}
-use Rattle.event.specs.Parser.{Result, ok, refuse, several, each}
+use Rattle.event.specs.Parser.{ok, refuse, several, each}
 use Rattle.event.specs.Rows.{row}
 use Rattle.event.specs.Words.{storeWord, belowChecks}
-use Rattle.event.specs.Scanning.{storeWords, Writes}
+use Rattle.event.specs.Scanning.{Writes}
 use Rattle.event.specs.Writing.{atKind, noRow}
-use Rattle.event.proofs.WritingTurns.{placed, Wrote, wrote, unwritten, writes-part}
-use Rattle.s800_layout.specs.Event.{Anode, Samples, crdc, samplesTag, anodeTag}
+use Rattle.event.proofs.Ends.{placed}
+use Rattle.event.proofs.WritingTurns.{Wrote, wrote, unwritten, writes-part, writes-done}
+use Rattle.s800_layout.specs.Event.{crdc, samplesTag, anodeTag}
 use Rattle.s800_layout.specs.Layout.{framed, sampleWords, samplesWords, anodeWords, contentWords, anodeRow, anodeChecks}
-use Rattle.s800_layout.specs.Writing.{datumBelow, sample, samples, anode}
+use Rattle.s800_layout.specs.Writing.{datumBelow, sample, samples, anodeOf, anode}
 use Rattle.s800_layout.proofs.Rows.{codes-samples}
 use Rattle.s800_writer.specs.Rows.{limitsFault}
 use Rattle.s800_writer.specs.Packets.{closed}
@@ -27,9 +28,6 @@ use Rattle.s800_writer.proofs.Singles.{one-taken, one-refused}
 
 -- the anode, of one row, in its inner packet at word `at`
 module _ (rs : List Row) (i : ℕ) {r : Row} (e : r ≡ getD rs i noRow) where
-  abbrev anodeOf : Row → Anode
-  anodeOf r = record { energy = r .channel; time = r .datum }
-
   pub anode-refused : {n : ℕ} → n ≡ limitsFault 9 0 65535 65535 r → (n ≡ 0 → ⊥) → anode i (drop i rs) ≡ refuse n i
   anode-refused = one-refused 9 0 65535 65535 anodeOf anodeRow (anodeChecks 22) anode-fault refl (λ a. (tt, (tt, tt))) rs i e
 
@@ -44,7 +42,7 @@ module _ (rs : List Row) (i : ℕ) {r : Row} (e : r ≡ getD rs i noRow) where
       let three : at + 3 ≡ at + 2 + 1 = omega arith in
       let four : at + 4 ≡ at + 2 + 2 = omega arith in
       closed-writes anodeWords at anodeTag (anode i (drop i rs))
-      (rw (t .1, d) (record { scanned = record { answered = ap (Done (i + 1)) four; stored = s ∙ ap (λ (n : ℕ). storeWord 16 b₁ n (r .datum)) three ∙ ap (λ (l : List ℕ). storeWord 16 l (at + 2 + 1) (r .datum)) q }; within = (omega arith, omega arith) }))
+      (writes-done 16 anodeWords (t .1) d four (s ∙ ap (λ (n : ℕ). storeWord 16 b₁ n (r .datum)) three ∙ ap (λ (l : List ℕ). storeWord 16 l (at + 2 + 1) (r .datum)) q) (omega arith) (omega arith))
       p′ c
 
 -- the threshold's row, and the samples after it

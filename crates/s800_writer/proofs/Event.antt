@@ -1,8 +1,8 @@
 -- The whole event: its first words, the stamp, the event number, the packets, and its length. Over plain values.
 -- Assumes nothing.
-use Prim.Native.Nat.{ℕ, suc, _+_, _*_, _-_, _≤_, _<_, min}
+use Prim.Native.Nat.{ℕ, _-_, _≤_, min}
 use native.Mathlib.Omega.{arith}
-use mathlib.Core.Path.{_≡_, refl, sym, ap, _∙_}
+use mathlib.Core.Path.{_≡_, refl, ap, _∙_}
 use mathlib.Core.List.{List, [], _∷_, _++_}
 use lib.ListN.{length, take, drop}
 use borrow.Rule.Slice.PartMut.{putMid}
@@ -12,12 +12,13 @@ use Rattle.event.specs.declared.Part.{Part}
 use Rattle.event.specs.declared.Part.the-variants.{Done, Refused}
 use Rattle.event.specs.declared.Row.{Row}
 use Rattle.event.specs.declared.StampOrder.{StampOrder}
-use Rattle.event.specs.Parser.{Result, ok, refuse, then, give, ended, several, each}
+use Rattle.event.specs.Parser.{Result, ok, then, give, ended, several, each}
 use Rattle.event.specs.Words.{storeWord}
-use Rattle.event.specs.Scanning.{storeWords, ScannedBy, writingPart, writingAll, Writes}
-use Rattle.event.proofs.Leads.{then-then, store-append}
+use Rattle.event.specs.Scanning.{storeWords, ScannedBy, writingAll, Writes}
+use Rattle.event.proofs.Leads.{then-then, scanned-refuse}
 use Rattle.event.proofs.WordStores.{part-written}
-use Rattle.event.proofs.WritingTurns.{placed, Wrote, wrote, unwritten, writes-part}
+use Rattle.event.proofs.Ends.{placed}
+use Rattle.event.proofs.WritingTurns.{Wrote, wrote, unwritten, writes-part, all-refused, all-done}
 use Rattle.s800_layout.specs.Event.{Packet, runOf, Stamp, Number, Event, eventTag, stampTag, numberTag}
 use Rattle.s800_layout.specs.Layout.{framed, stampWords, numberWords, packetWords, runWords, packetsWords, version, words}
 use Rattle.s800_layout.specs.Writing.{packet, stampPacket, numberPacket, eventRowsUpTo}
@@ -42,11 +43,8 @@ module _ (o : StampOrder) (rs : List Row) where
   abbrev Laid : List ℕ → Answer → List ℕ → Type 0
   Laid b r after = ScannedBy (writingAll 16) words eventAt 0 b r after
 
-  laid-refused : {n p : ℕ} {b after : List ℕ} → eventAt ≡ refuse n p → Laid b (answer.Refused n p) after
-  laid-refused e = rw e (record { answered = refl; stored = tt })
-
   pub stamp-laid : {part part′ b after : List ℕ} {p : Part} {n m : ℕ} → StampIn part p part′ → p ≡ Refused n m → Laid b (answer.Refused n m) after
-  stamp-laid w e = laid-refused (rw (unwritten 16 (λ s. framed stampTag (stampWords s)) (stampPacket o 0 rs) (rw e at (w .scanned))))
+  stamp-laid {b = b} {after} w e = scanned-refuse words 0 b after (rw (unwritten 16 (λ s. framed stampTag (stampWords s)) (stampPacket o 0 rs) (rw e at (w .scanned))))
 
   -- the stamp is written
   pub record Stamped (b b₂ : List ℕ) : Type 0 where
@@ -79,7 +77,7 @@ module _ (o : StampOrder) (rs : List Row) where
     pub stored : b₃ ≡ storeWords 16 b 2 (version ∷ (framed stampTag (stampWords stamp) ++ framed numberTag (numberWords number)))
 
   pub number-laid : {b b₂ part part′ after : List ℕ} {p : Part} {n m : ℕ} → Stamped b b₂ → NumberIn part p part′ → p ≡ Refused n m → Laid b (answer.Refused n m) after
-  number-laid t w e = laid-refused (rw (t .parsed, unwritten 16 (λ k. framed numberTag (numberWords k)) (numberPacket 2 (drop 2 rs)) (rw e at (w .scanned))))
+  number-laid {b} {after = after} t w e = scanned-refuse words 0 b after (rw (t .parsed, unwritten 16 (λ k. framed numberTag (numberWords k)) (numberPacket 2 (drop 2 rs)) (rw e at (w .scanned))))
 
   pub number-done : (b : List ℕ) {b₂ b₃ part part′ : List ℕ} {start n c : ℕ} {p : Part} → Stamped b b₂ → start ≡ min 9 (length b₂) → part ≡ take (length b₂ - start) (drop start b₂) → NumberIn part p part′ → p ≡ Done n c
       → b₃ ≡ putMid start (length b₂ - start) b₂ part′ → Begun b b₃
@@ -107,10 +105,7 @@ module _ (o : StampOrder) (rs : List Row) where
         d c
 
     pub event-refused : {n m : ℕ} {after : List ℕ} → p′ ≡ Refused n m → Laid b (answer.Refused n m) after
-    event-refused e = laid-refused (unwritten 16 words eventAt (rw e at (whole .scanned)))
+    event-refused = all-refused 16 words (whole .scanned)
 
     pub event-laid : {n k : ℕ} → p′ ≡ Done n k → Laid b (answer.Accepted k) b₅
-    event-laid {n} {k} e = go (wrote 16 words eventAt (rw e at (whole .scanned)))
-      where
-        go : Wrote 16 words eventAt 0 b n k b₅ → Laid b (answer.Accepted k) b₅
-        go v = rw (v .parsed) (record { answered = ap answer.Accepted (v .counted); stored = v .stored })
+    event-laid = all-done 16 words (whole .scanned)

@@ -1,10 +1,10 @@
 -- A row gives at most four words, over a whole packet: so no count of words wraps.
 -- Assumes nothing.
-use Prim.Native.Nat.{ℕ, suc, _+_, _*_, _≤_}
+use Prim.Native.Nat.{ℕ, _+_, _*_, _≤_}
 use native.Mathlib.Omega.{arith}
-use mathlib.Core.Path.{_≡_, refl}
-use mathlib.Core.List.{List, [], _∷_, _++_, map}
-use lib.ListN.{length, length-append}
+use mathlib.Core.Path.{_≡_, refl, sym, _∙_}
+use mathlib.Core.List.{List, [], _∷_, map}
+use lib.ListN.{length, length-append, length-map}
 use Rattle.event.specs.declared.Row.{Row}
 use Rattle.event.specs.Parser.{each}
 use Rattle.event.specs.Rows.{row}
@@ -12,12 +12,7 @@ use Rattle.s800_layout.specs.Event.{Pair, Sample, energies, hits, Form, trigger
 use Rattle.s800_layout.specs.Layout.{framed, datumWord, datumRow, hodoscopeBase, adcBase, pairWords, pairRows, sampleWords, samplesWords, sampleRow, anodeWords, anodeRow, contentWords, contentRows, packetWords, packetRows}
 
 as-many : {A : Type 0} (f : A → ℕ) (g : A → Row) (xs : List A) → length (map f xs) ≡ length (map g xs)
-as-many f g [] = refl
-as-many f g (x ∷ xs) = omega (arith, as-many f g xs)
-
-self : (g : ℕ → Row) (xs : List ℕ) → length xs ≡ length (map g xs)
-self g [] = refl
-self g (x ∷ xs) = omega (arith, self g xs)
+as-many f g xs = length-map xs f ∙ sym (length-map xs g)
 
 in-pairs : (xs : List Pair) → length (each pairWords xs) ≡ length (each pairRows xs)
 in-pairs [] = refl
@@ -40,7 +35,7 @@ content-few hodoscope (energies id xs) = omega (arith, as-many (datumWord energy
 content-few hodoscope (hits h) = omega arith
 content-few objectPin d = omega arith
 content-few vmeAdc c = omega (arith, as-many (datumWord adcEnergy) (datumRow 6 (adcBase (c .id))) (c .energies))
-content-few (opaque k) ws = omega (arith, self (row 11 0 0) ws)
+content-few (opaque k) ws = omega (arith, length-map ws (row 11 0 0))
 
 pub few-words : (q : Packet) → length (packetWords q) ≤ 4 * length (packetRows q)
 few-words q = omega (arith, content-few (q .form) (q .content))

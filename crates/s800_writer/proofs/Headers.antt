@@ -1,17 +1,16 @@
 -- A packet's own row: the refusal that the code finds, and the packet after it. Over plain values.
 -- Assumes nothing.
-use Prim.Native.Nat.{ℕ, suc, _+_, _≤_, _<_}
+use Prim.Native.Nat.{ℕ, suc, _≤_}
 use native.Mathlib.Omega.{arith}
 use mathlib.Core.Path.{_≡_, refl, sym, ap, _∙_}
 use mathlib.Core.Bool.{Bool, true, false, cond, _&&_}
 use mathlib.Core.List.{List}
-use lib.Dec.{T, eqb, ltb, leb}
-use lib.ListN.{length, getD, drop}
+use lib.Dec.{eqb, ltb, leb}
+use lib.ListN.{getD, drop}
 use borrow.Author.Tests.{eq-eqb, ne-eqb, eqb-true, leb-true, leb-false, ltb-true, ltb-false}
 use Rattle.event.specs.declared.Part.{Part}
 use Rattle.event.specs.declared.Part.the-variants.{Refused}
 use Rattle.event.specs.declared.Row.{Row}
-use Rattle.event.specs.Parser.{ok, refuse}
 use Rattle.event.specs.Scanning.{Writes}
 use Rattle.event.specs.Writing.{sameRow, noRow}
 use Rattle.event.proofs.Impossible.{impossible}
@@ -19,7 +18,7 @@ use Rattle.event.proofs.RowJudged.{row-taken, row-refused}
 use Rattle.event.proofs.WritingTurns.{writes-refused}
 use Rattle.s800_layout.specs.Event.{Opaque, Form, trigger, timeOfFlight, scintillator, ionChamber, crdc, hodoscope, objectPin, vmeAdc, opaque, formOf, tag, largestId}
 use Rattle.s800_layout.specs.Layout.{packetWords, idChecks}
-use Rattle.s800_layout.specs.Writing.{ofTag, headerOf, headerRow, header, packet}
+use Rattle.s800_layout.specs.Writing.{ofTag, headerOf, headerRow, packet}
 use Rattle.s800_layout.proofs.Lengths.{form-back}
 use Rattle.s800_writer.specs.Packets.{idsOf, headerFault, WritesPacket}
 

@@ -1,24 +1,24 @@
 -- The stamp packet and the event number packet, of two rows each. Over plain values.
 -- Assumes nothing.
-use Prim.Native.Nat.{ℕ, _+_, _*_, _/_, _%_, _^_, _≤_, _<_}
+use Prim.Native.Nat.{ℕ, _+_, _/_, _%_}
 use native.Mathlib.Omega.{arith}
-use mathlib.Core.Path.{_≡_, refl, sym, ap, _∙_}
+use mathlib.Core.Path.{_≡_, refl, sym, _∙_}
 use mathlib.Core.Bool.{Bool, true, false, cond, _&&_}
-use mathlib.Core.List.{List, [], _∷_}
+use mathlib.Core.List.{List, []}
 use lib.Dec.{eqb}
-use lib.ListN.{length, getD, drop}
+use lib.ListN.{getD, drop}
 use borrow.Author.Tests.{eq-eqb, eqb-true}
 use Rattle.event.specs.declared.Part.{Part}
 use Rattle.event.specs.declared.Part.the-variants.{Done, Refused}
 use Rattle.event.specs.declared.Row.{Row}
 use Rattle.event.specs.declared.StampOrder.{StampOrder}
 use Rattle.event.specs.declared.StampOrder.the-variants.{Crossed, Rising}
-use Rattle.event.specs.Parser.{Parser, ok, refuse, faultIn, _>>_}
+use Rattle.event.specs.Parser.{Parser, refuse, faultIn, _>>_}
 use Rattle.event.specs.Words.{storeWord}
 use Rattle.event.specs.Scanning.{storeWords, Writes}
 use Rattle.event.specs.Writing.{sameRow, rowTests, rowWith, ofKind, noRow}
 use Rattle.event.proofs.RowJudged.{row-taken, row-refused}
-use Rattle.event.proofs.WritingTurns.{writes-refused}
+use Rattle.event.proofs.WritingTurns.{writes-refused, writes-done}
 use Rattle.s800_layout.specs.Event.{Stamp, Number, stampTag, numberTag}
 use Rattle.s800_layout.specs.Layout.{framed, stampWords, numberWords, packetRow, stampRow, numberRow, stampChecks, numberChecks}
 use Rattle.s800_layout.specs.Writing.{ofTag, ownRow, stampOf, numberOf, stampPacket, numberPacket}
@@ -88,7 +88,7 @@ module _ (order : StampOrder) (rs : List Row) {o : Row} (e : o ≡ getD rs 0 noR
         let t = one-taken 2 0 0xffffffff 0xffffffff (stampOf order) (stampRow order) (stampChecks 22) (stamp-fault order) refl (λ s. (tt, (tt, (tt, (tt, tt))))) rs 1 q g in
         let l = t .0 in
         closed-writes stampWords 0 stampTag (stampPacket order 0 rs)
-        (rw (own-row-taken stampTag stampRest rs 0 e f ∙ t .1, d) (record { scanned = record { answered = refl; stored = s }; within = (omega arith, omega arith) }))
+        (writes-done 16 stampWords (own-row-taken stampTag stampRest rs 0 e f ∙ t .1) d refl s (omega arith) (omega arith))
 
 -- the event number, of rows 2 and 3
 module _ (rs : List Row) {o : Row} (e : o ≡ getD rs 2 noRow) where
@@ -112,4 +112,4 @@ module _ (rs : List Row) {o : Row} (e : o ≡ getD rs 2 noRow) where
         let t = one-taken 3 0 65535 0xffffffff numberOf numberRow (numberChecks 22) number-fault refl (λ k. (tt, (tt, (tt, tt)))) rs 3 q g in
         let l = t .0 in
         closed-writes numberWords 0 numberTag (numberPacket 2 (drop 2 rs))
-        (rw (own-row-taken numberTag numberRest rs 2 e f ∙ t .1, d) (record { scanned = record { answered = refl; stored = v ∙ rw (u, s) }; within = (omega arith, omega arith) }))
+        (writes-done 16 numberWords (own-row-taken numberTag numberRest rs 2 e f ∙ t .1) d refl (v ∙ rw (u, s)) (omega arith) (omega arith))

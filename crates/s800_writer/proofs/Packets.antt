@@ -1,31 +1,30 @@
 -- The packets, written after their own row: from the words of their content to the packet. Over plain values.
 -- Assumes nothing.
-use Prim.Native.Nat.{ℕ, suc, _+_, _*_, _-_, _^_, _≤_, _<_}
+use Prim.Native.Nat.{ℕ, _+_, _-_, _^_, _≤_, _<_}
 use native.Mathlib.Omega.{arith}
 use mathlib.Core.Path.{_≡_, refl, sym, ap, subst, _∙_}
-use mathlib.Core.List.{List, [], _∷_, _++_, map}
+use mathlib.Core.List.{List, [], _∷_, map}
 use lib.ListN.{length, getD, drop}
 use borrow.Author.Tests.{ne-eqb}
 use Rattle.event.specs.declared.Part.{Part}
 use Rattle.event.specs.declared.Part.the-variants.{Done, Refused}
 use Rattle.event.specs.declared.Row.{Row}
-use Rattle.event.specs.Parser.{Result, ok, refuse, then, give, faultIn, several, each}
+use Rattle.event.specs.Parser.{Result, ok, refuse, faultIn, several, each}
 use Rattle.event.specs.Rows.{row}
-use Rattle.event.specs.Words.{storeWord, belowChecks}
+use Rattle.event.specs.Words.{wordAlone, storeWord, belowChecks}
 use Rattle.event.specs.Scanning.{Writes}
 use Rattle.event.specs.Writing.{rowTests, ofKind, noRow}
 use Rattle.event.proofs.ChannelLaws.{blocked-none}
-use Rattle.event.proofs.Elements.{each-map, map-self}
-use Rattle.event.proofs.Leads.{then-then}
+use Rattle.event.proofs.Elements.{each-map, each-alone}
 use Rattle.event.proofs.RowJudged.{row-taken, row-refused}
-use Rattle.event.proofs.WritingTurns.{writes-part, writes-as, writes-refused}
+use Rattle.event.proofs.WritingTurns.{writes-part, writes-as, writes-refused, writes-done}
 use Rattle.s800_format.specs.declared.Format.{Format}
 use Rattle.s800_format.specs.Format.{formatOf, timesFormat, energiesFormat, adcFormat}
 use Rattle.s800_format.proofs.Formats.{trigger-format, flight-format, energies-format, adc-format}
-use Rattle.s800_layout.specs.Event.{Datum, Registers, energies, hits, Form, trigger, timeOfFlight, ionChamber, hodoscope, objectPin, vmeAdc, Opaque, opaque, Content, energiesTag, tag, hitsId, patternBound, ChannelFormat, triggerTime, flightTime, energy16, adcEnergy}
+use Rattle.s800_layout.specs.Event.{Datum, energies, hits, Form, trigger, timeOfFlight, ionChamber, hodoscope, objectPin, vmeAdc, Opaque, opaque, Content, energiesTag, tag, hitsId, patternBound, ChannelFormat, triggerTime, flightTime, energy16, adcEnergy}
 use Rattle.s800_layout.specs.Layout.{framed, channelWord, datumWord, registerWords, contentWords, packetWords, datumRow, hodoscopeBase, adcBase, registerRow, datumChecks, registerChecks}
-use Rattle.s800_layout.specs.Writing.{atPacket, datumOf, channelRows, content, registers, datumBelow}
-use Rattle.s800_writer.specs.Rows.{limitsFault, datumFault, datumWords, wordAlone}
+use Rattle.s800_layout.specs.Writing.{atPacket, datumOf, channelRows, content, registersOf, registers, datumBelow}
+use Rattle.s800_writer.specs.Rows.{limitsFault, datumFault, datumWords}
 use Rattle.s800_writer.specs.Packets.{closed, WritesPacket}
 use Rattle.s800_writer.proofs.Closing.{closed-writes}
 use Rattle.s800_writer.proofs.Datum.{datum-fault}
@@ -86,7 +85,7 @@ module _ (rs : List Row) (i : ℕ) where
   -- opaque words
   pub opaque-content : (k : Opaque) {b after : List ℕ} {r : Part} → Writes 16 (each wordAlone) (several (datumBelow 11 0 (2 ^ 16)) (atPacket) (i + 1) (drop (i + 1) rs)) rs 2 b r after
       → Writes 16 (contentWords (opaque k)) (contentAt (opaque k) 0 rs i) rs 2 b r after
-  opaque-content k = writes-as 16 (each wordAlone) (λ ws. ws) (contentAt (opaque k) 0 rs i) (λ ws. each-map (λ w. w) ws ∙ map-self ws)
+  opaque-content k = writes-as 16 (each wordAlone) (λ ws. ws) (contentAt (opaque k) 0 rs i) each-alone
 
   module _ {r : Row} (e : r ≡ getD rs (i + 1) noRow) where
     two : i + 1 + 1 ≡ i + 2
@@ -127,22 +126,19 @@ module _ (rs : List Row) (i : ℕ) where
         let l = t .0 in
         let z : r .channel - 0 ≡ r .channel = omega arith in
         let u : w ≡ datumWord energy16 (datumOf 0 r) = (rw q at v) ∙ rw z in
-        rw (t .1, two) (record { scanned = record { answered = refl; stored = s ∙ rw u }; within = (omega arith, omega arith) })
+        writes-done 16 (contentWords objectPin) (t .1) (rw two) refl (s ∙ rw u) (omega arith) (omega arith)
 
 -- the hits, of one row
 module _ (rs : List Row) (i : ℕ) {r : Row} (e : r ≡ getD rs i noRow) where
-  abbrev hitsOf : Row → Registers
-  hitsOf r = record { a = r .unit; b = r .channel; time = r .datum }
-
   pub hits-refused : {n : ℕ} → n ≡ limitsFault 10 65535 65535 65535 r → (n ≡ 0 → ⊥) → registers i (drop i rs) ≡ refuse n i
-  hits-refused = one-refused 10 65535 65535 65535 hitsOf registerRow (registerChecks 22) hits-fault refl (λ a. (tt, (tt, (tt, tt)))) rs i e
+  hits-refused = one-refused 10 65535 65535 65535 registersOf registerRow (registerChecks 22) hits-fault refl (λ a. (tt, (tt, (tt, tt)))) rs i e
 
   pub hits-inside : 0 ≡ limitsFault 10 65535 65535 65535 r → i < length rs
-  hits-inside f = one-taken 10 65535 65535 65535 hitsOf registerRow (registerChecks 22) hits-fault refl (λ a. (tt, (tt, (tt, tt)))) rs i e f .0
+  hits-inside f = one-taken 10 65535 65535 65535 registersOf registerRow (registerChecks 22) hits-fault refl (λ a. (tt, (tt, (tt, tt)))) rs i e f .0
 
   pub hits-taken : {b b₁ b₂ b₃ : List ℕ} → 0 ≡ limitsFault 10 65535 65535 65535 r → 1 ≤ i → b₁ ≡ storeWord 16 b 3 (r .unit) → b₂ ≡ storeWord 16 b₁ 4 (r .channel) → b₃ ≡ storeWord 16 b₂ 5 (r .datum)
       → Writes 16 registerWords (registers i (drop i rs)) rs 3 b (Done (i + 1) 6) b₃
   hits-taken f low p q s =
-      let t = one-taken 10 65535 65535 65535 hitsOf registerRow (registerChecks 22) hits-fault refl (λ a. (tt, (tt, (tt, tt)))) rs i e f in
+      let t = one-taken 10 65535 65535 65535 registersOf registerRow (registerChecks 22) hits-fault refl (λ a. (tt, (tt, (tt, tt)))) rs i e f in
       let l = t .0 in
-      rw (t .1) (record { scanned = record { answered = refl; stored = s ∙ rw (q, p) }; within = (omega arith, omega arith) })
+      writes-done 16 registerWords (t .1) refl refl (s ∙ rw (q, p)) (omega arith) (omega arith)

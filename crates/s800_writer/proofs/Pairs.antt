@@ -1,33 +1,33 @@
 -- The loop over pairs of an energy and a time: one turn, over plain values.
 -- Assumes nothing.
-use Prim.Native.Nat.{ℕ, suc, _+_, _*_, _-_, _%_, _^_, _≤_, _<_}
+use Prim.Native.Nat.{ℕ, _+_, _*_, _-_, _%_, _^_, _<_}
 use native.Mathlib.Omega.{arith}
 use mathlib.Core.Path.{_≡_, refl, sym, ap, subst, _∙_}
 use mathlib.Core.Bool.{Bool, true, false, cond, not, _&&_}
-use mathlib.Core.List.{List, [], _∷_}
+use mathlib.Core.List.{List, []}
 use lib.Dec.{eqb, ltb}
 use lib.ListN.{length, getD, drop}
 use borrow.Author.Tests.{ltb-true}
 use Rattle.event.specs.declared.Part.the-variants.{Refused}
 use Rattle.event.specs.declared.Row.{Row}
-use Rattle.event.specs.Channels.{insert}
+use Rattle.event.specs.Channels.{insert, Blocked}
 use Rattle.event.specs.Parser.{ok, refuse, faultIn, many, each}
 use Rattle.event.specs.Rows.{row}
 use Rattle.event.specs.Words.{storeWord, belowChecks}
 use Rattle.event.specs.Scanning.{storeWords, Writes}
 use Rattle.event.specs.Writing.{rowTests, ofKind, noRow}
-use Rattle.event.proofs.ChannelLaws.{Blocked, blocked-more}
+use Rattle.event.proofs.ChannelLaws.{blocked-more}
 use Rattle.event.proofs.RowJudged.{row-taken, row-refused}
 use Rattle.event.proofs.Turns.{upToStop}
 use Rattle.event.proofs.WritingTurns.{WritesOn, run-refused, run-taken}
-use Rattle.s800_format.specs.Format.{formatOf, pairFormat}
+use Rattle.s800_format.specs.Format.{pairFormat}
 use Rattle.s800_format.proofs.Formats.{pair-format}
 use Rattle.s800_layout.specs.Event.{ChannelFormat, pairEnergy}
 use Rattle.s800_layout.specs.Layout.{pairWords, datumRow, datumChecks, pairChannels}
-use Rattle.s800_layout.specs.Writing.{atPacket, datumOf, datum, datumBelow, pair}
+use Rattle.s800_layout.specs.Writing.{atPacket, datumOf, datum, pair}
 use Rattle.s800_layout.proofs.Rows.{codes-pair}
 use Rattle.s800_writer.specs.Rows.{datumFault, timeFault, pairOf}
-use Rattle.s800_writer.proofs.Channels.{Sound, sound}
+use Rattle.s800_writer.proofs.Channels.{sound}
 use Rattle.s800_writer.proofs.Datum.{datum-fault}
 use Rattle.s800_writer.proofs.Limits.{time-fault}
 

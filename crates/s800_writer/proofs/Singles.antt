@@ -1,27 +1,28 @@
 -- Rows of which each field has a largest number: one of them, and loops over them, one turn each. Over plain values.
 -- Assumes nothing.
-use Prim.Native.Nat.{ℕ, _+_, _*_, _/_, _%_, _^_, _≤_, _<_}
+use Prim.Native.Nat.{ℕ, _+_, _^_, _≤_, _<_}
 use native.Mathlib.Omega.{arith}
-use mathlib.Core.Path.{_≡_, refl, sym, ap, _∙_}
+use mathlib.Core.Path.{_≡_, refl, sym, _∙_}
 use mathlib.Core.Bool.{Bool, true, false, not}
-use mathlib.Core.List.{List, _∷_, [], _++_}
+use mathlib.Core.List.{List, _∷_, []}
 use lib.Dec.{eqb}
 use lib.ListN.{length, getD, drop}
 use Rattle.event.specs.declared.Part.the-variants.{Refused}
 use Rattle.event.specs.declared.Row.{Row}
-use Rattle.event.specs.Parser.{ok, refuse, Test, Passed, faultIn, many, several, each, alone}
+use Rattle.event.specs.Parser.{ok, refuse, Test, faultIn, several, each, alone}
 use Rattle.event.specs.Rows.{row}
-use Rattle.event.specs.Words.{storeWord, belowChecks}
+use Rattle.event.specs.Words.{wordAlone, storeWord, belowChecks}
 use Rattle.event.specs.Scanning.{storeWords, Writes}
 use Rattle.event.specs.Writing.{rowTests, rowWith, ofKind, atKind, noRow}
 use Rattle.event.proofs.Codes.{Codes, any}
-use Rattle.event.proofs.RowJudged.{Numbered, row-taken, row-refused}
+use Rattle.event.proofs.RowFaults.{Numbered}
+use Rattle.event.proofs.RowJudged.{row-taken, row-refused}
 use Rattle.event.proofs.Turns.{upToStop}
 use Rattle.event.proofs.WritingTurns.{WritesOn, run-refused, run-taken}
 use Rattle.s800_layout.specs.Layout.{sampleWords, sampleRow, sampleChecks}
 use Rattle.s800_layout.specs.Writing.{atPacket, sampleOf, sample, datumBelow}
 use Rattle.s800_layout.proofs.Rows.{codes-sample, codes-below}
-use Rattle.s800_writer.specs.Rows.{limitsFault, wordAlone}
+use Rattle.s800_writer.specs.Rows.{limitsFault}
 use Rattle.s800_writer.proofs.Limits.{plain-fault, sample-fault}
 
 module _ {A : Type 0} (k u c d : ℕ) (fields : Row → A) (print : A → Row) (checks : A → List Test) (law : (r : Row) → faultIn (rowTests (ofKind k) fields print checks r) ≡ limitsFault k u c d r)

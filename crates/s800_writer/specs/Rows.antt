@@ -1,7 +1,7 @@
 -- The refusal that one row meets, as the code finds it (the contracts of private functions).
 -- Assumes nothing.
 use Prim.Native.Nat.{ℕ, _*_, _-_, _^_, _≤_}
-use mathlib.Core.Bool.{cond, not, _&&_}
+use mathlib.Core.Bool.{cond, _&&_}
 use mathlib.Core.List.{List, [], _∷_}
 use lib.Dec.{eqb, ltb, leb}
 use lib.ListN.{length}
@@ -39,10 +39,6 @@ datumWords m d = datumWord (formatOf m) d ∷ []
 -- a pair of two rows
 abbrev pub pairOf : (energy time : Row) → Pair
 pairOf e t = record { energy = datumOf 0 e; time = t .datum }
-
--- a word by itself
-abbrev pub wordAlone : ℕ → List ℕ
-wordAlone w = w ∷ []
 
 -- rows from i on, after k words of the packet
 pub record RunAt (rs : List Row) (i k : ℕ) : Type 0 where

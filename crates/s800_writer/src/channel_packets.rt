@@ -3,11 +3,11 @@
 use crate::content::channel_word;
 use crate::content::write_channels;
 use crate::part::close;
-use crate::part::refuse;
 use crate::row::channel_fault;
 use crate::row::limits_fault;
 use event::Part;
 use event::kind;
+use event::refuse_part;
 use event::rows::row_at;
 use event::words::store_word16;
 use s800_format::adc_energies;
@@ -33,7 +33,7 @@ pub(crate) fn write_trigger(rows: &[u32], own: usize, part: &mut [u16]) -> Part
     let pattern = row_at(rows, own + 1);
     let number = limits_fault(pattern, kind::TRIGGER_PATTERN, 0, 0, 31);
     if number != 0 {
-        return refuse(number, own + 1);
+        return refuse_part(number, own + 1);
     }
     store_word16(part, 2, pattern.datum as usize);
     let times = write_channels(rows, own + 2, trigger_times(), part, 3);
@@ -68,7 +68,7 @@ pub(crate) fn write_object_pin(rows: &[u32], own: usize, part: &mut [u16]) -> Pa
     let row = row_at(rows, own + 1);
     let number = channel_fault(format, 0, row);
     if number != 0 {
-        return refuse(number, own + 1);
+        return refuse_part(number, own + 1);
     }
     store_word16(
         part,
@@ -108,7 +108,7 @@ fn write_hits(rows: &[u32], at: usize, part: &mut [u16]) -> Part
     let row = row_at(rows, at);
     let number = limits_fault(row, kind::HODOSCOPE_HITS, 65535, 65535, 65535);
     if number != 0 {
-        return refuse(number, at);
+        return refuse_part(number, at);
     }
     store_word16(part, 3, row.unit as usize);
     store_word16(part, 4, row.channel as usize);

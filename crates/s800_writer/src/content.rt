@@ -17,12 +17,13 @@ ghost use Prim.Native.Nat.{_+_, _<_, _≤_, _^_};
 ghost use lib.ListN.{drop};
 ghost use denote.Ref.{now};
 ghost use Rattle.event.specs.Parser.{many, several, each};
+ghost use Rattle.event.specs.Words.{wordAlone};
 ghost use Rattle.event.specs.Scanning.{storeWords, Writes};
 ghost use Rattle.event.specs.Writing.{rowsIn, atKind};
 ghost use Rattle.s800_layout.specs.Layout.{channelWord, pairWords, sampleWords, pairChannels};
 ghost use Rattle.s800_layout.specs.Writing.{atPacket, channelRows, pair, sampleOf, sample, datumBelow};
 ghost use Rattle.s800_format.specs.Format.{bitsOf, formatOf};
-ghost use Rattle.s800_writer.specs.Rows.{RunAt, datumWords, pairOf, wordAlone};
+ghost use Rattle.s800_writer.specs.Rows.{RunAt, datumWords, pairOf};
 
 // The channel above, the number in the bits below.
 pub(crate) fn channel_word(format: Format, channel: u32, number: u32) -> u32

@@ -1,7 +1,6 @@
 // An event: the stamp packet, the event number packet, the packets after them.
 use crate::packet::write_packet;
 use crate::part::close;
-use crate::part::refuse;
 use crate::row::limits_fault;
 use event::Answer;
 use event::Part;
@@ -9,31 +8,22 @@ use event::Row;
 use event::StampOrder;
 use event::kind;
 use event::refusal;
+use event::refuse_part;
 use event::rows::row_at;
+use event::words::part_start;
 use event::words::store_word16;
 use s800_format::tag;
-ghost use Prim.Native.Nat.{_*_, _≤_, _<_, _%_, _^_, min};
 ghost use mathlib.Core.Path.{_≡_};
-ghost use mathlib.Core.List.{_++_};
-ghost use lib.ListN.{length, drop};
+ghost use lib.ListN.{drop};
 ghost use denote.Ref.{now};
 ghost use Rattle.event.specs.Parser.{ended, several, each};
 ghost use Rattle.event.specs.Scanning.{storeWords, ScannedBy, writingAll, Writes};
 ghost use Rattle.event.specs.Writing.{rowsIn};
 ghost use Rattle.s800_layout.specs.Event.{stampTag, numberTag};
 ghost use Rattle.s800_layout.specs.Layout.{framed, stampWords, numberWords, packetWords, words as wordsOf};
-ghost use Rattle.s800_layout.specs.Writing.{stampOf, numberOf, stampPacket, numberPacket, packet, eventRowsUpTo};
+ghost use Rattle.s800_layout.specs.Writing.{stampOf, stampPacket, numberPacket, packet, eventRowsUpTo};
 ghost use Rattle.s800_writer.specs.Rows.{RunAt};
 ghost use Rattle.s800_writer.specs.Packets.{ownFault, chunkOf};
-
-fn least(a: usize, b: usize) -> usize
-    ensures { λ r. ⌜ r ≡ min a b ⌝ }
-{
-    if a < b {
-        return a;
-    }
-    b
-}
 
 // The refusal that the own row of a packet with this tag and no id meets, 0 for none.
 fn own_fault(row: Row, tag: u32) -> u32
@@ -76,12 +66,12 @@ fn write_stamp(rows: &[u32], order: StampOrder, part: &mut [u16]) -> Part
 {
     let number = own_fault(row_at(rows, 0), tag::TIMESTAMP);
     if number != 0 {
-        return refuse(number, 0);
+        return refuse_part(number, 0);
     }
     let row = row_at(rows, 1);
     let number = limits_fault(row, kind::STAMP, 0, 0xffff_ffff, 0xffff_ffff);
     if number != 0 {
-        return refuse(number, 1);
+        return refuse_part(number, 1);
     }
     store_stamp(part, row, order);
     close(part, 0, tag::TIMESTAMP, Part::Done { next: 2, count: 6 })
@@ -93,12 +83,12 @@ fn write_number(rows: &[u32], part: &mut [u16]) -> Part
 {
     let number = own_fault(row_at(rows, 2), tag::EVENT_NUMBER);
     if number != 0 {
-        return refuse(number, 2);
+        return refuse_part(number, 2);
     }
     let row = row_at(rows, 3);
     let number = limits_fault(row, kind::EVENT_NUMBER, 0, 65535, 0xffff_ffff);
     if number != 0 {
-        return refuse(number, 3);
+        return refuse_part(number, 3);
     }
     store_word16(part, 2, (row.datum % 65536) as usize);
     store_word16(part, 3, (row.datum / 65536) as usize);
@@ -114,7 +104,7 @@ fn write_packets(rows: &[u32], from: usize, words: &mut [u16], first: usize) -> 
     let mut i = from;
     let mut at = first;
     while i < rows.len() / 4 {
-        let start = least(at, words.len());
+        let start = part_start(at, words.len());
         let written = write_packet(rows, i, &mut words[start..]);
         match written {
             Part::Refused { number, place } => {
@@ -134,12 +124,12 @@ pub(crate) fn lay(rows: &[u32], order: StampOrder, words: &mut [u16]) -> Answer
     ensures { λ r. ⌜ ScannedBy (writingAll 16) wordsOf (eventRowsUpTo order ended 0 (rowsIn (now (rows .entry)))) 0 (now (words .entry)) r (now (words .exit)) ⌝ }
 {
     store_word16(words, 2, 5);
-    let at = least(3, words.len());
+    let at = part_start(3, words.len());
     let stamp = write_stamp(rows, order, &mut words[at..]);
     if let Part::Refused { number, place } = stamp {
         return Answer::Refused { number, place };
     }
-    let at = least(9, words.len());
+    let at = part_start(9, words.len());
     let number = write_number(rows, &mut words[at..]);
     if let Part::Refused { number, place } = number {
         return Answer::Refused { number, place };

@@ -17,9 +17,6 @@ ghost use denote.Ref.{now};
 ghost use Rattle.event.specs.Outcome.{answerOf, given, overlaid};
 ghost use Rattle.s800_layout.specs.Writing.{writingInto};
 
-// The largest event.
-const LARGEST: usize = 4096;
-
 // Writes the words of one event from its rows, four elements each. A refused writing leaves every word as it was.
 pub fn write(rows: &[u32], order: StampOrder, words: &mut [u16]) -> Answer
     ensures answer { λ r. ⌜ r ≡ answerOf (writingInto (length (now (words .entry))) order (now (rows .entry))) ⌝ }
@@ -36,7 +33,7 @@ pub fn write(rows: &[u32], order: StampOrder, words: &mut [u16]) -> Answer
     let Answer::Accepted(count) = counted else {
         return counted;
     };
-    if LARGEST < count {
+    if s800_format::LARGEST_EVENT < count {
         return Answer::Refused {
             number: refusal::LARGE,
             place: count,

@@ -4,14 +4,14 @@ use crate::content::write_opaque_words;
 use crate::content::write_pairs;
 use crate::content::write_samples;
 use crate::part::close;
-use crate::part::refuse;
 use crate::row::limits_fault;
 use event::Part;
 use event::kind;
+use event::refuse_part;
 use event::rows::row_at;
 use event::words::store_word16;
 use s800_format::tag;
-ghost use Prim.Native.Nat.{ℕ, _≤_, _<_};
+ghost use Prim.Native.Nat.{_<_};
 ghost use mathlib.Core.Path.{_≡_};
 ghost use lib.ListN.{length, drop};
 ghost use denote.Ref.{now};
@@ -40,7 +40,7 @@ pub(crate) fn write_crdc(rows: &[u32], own: usize, id: u32, part: &mut [u16]) ->
     let threshold = row_at(rows, own + 1);
     let number = limits_fault(threshold, kind::THRESHOLD, 0, 0, 65535);
     if number != 0 {
-        return refuse(number, own + 1);
+        return refuse_part(number, own + 1);
     }
     store_word16(part, 2, id as usize);
     store_word16(part, 5, threshold.datum as usize);
@@ -61,7 +61,7 @@ fn write_anode(rows: &[u32], from: usize, part: &mut [u16], at: usize) -> Part
     let row = row_at(rows, from);
     let number = limits_fault(row, kind::ANODE, 0, 65535, 65535);
     if number != 0 {
-        return refuse(number, from);
+        return refuse_part(number, from);
     }
     store_word16(part, at + 2, row.channel as usize);
     store_word16(part, at + 3, row.datum as usize);

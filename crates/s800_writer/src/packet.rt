@@ -8,11 +8,11 @@ use crate::channel_packets::write_vme_adc;
 use crate::other_packets::write_crdc;
 use crate::other_packets::write_opaque;
 use crate::other_packets::write_scintillator;
-use crate::part::refuse;
 use event::Part;
 use event::Row;
 use event::kind;
 use event::refusal;
+use event::refuse_part;
 use event::rows::row_at;
 use s800_format::is_opaque;
 use s800_format::tag;
@@ -90,7 +90,7 @@ pub(crate) fn write_packet(rows: &[u32], own: usize, part: &mut [u16]) -> Part
     let row = row_at(rows, own);
     let number = header_fault(row);
     if number != 0 {
-        return refuse(number, own);
+        return refuse_part(number, own);
     }
     write_content(rows, own, row.unit, row.channel, part)
 }

@@ -6,12 +6,6 @@ ghost use Prim.Native.Nat.{_+_, _-_, _<_, _^_};
 ghost use denote.Ref.{now};
 ghost use Rattle.s800_writer.specs.Packets.{closed};
 
-pub(crate) fn refuse(number: u32, place: usize) -> Part
-    ensures { λ r. ⌜ r ≡ Part.Refused number place ⌝ }
-{
-    Part::Refused { number, place }
-}
-
 // The number of words from `at` up to `end`.
 fn size(at: usize, end: usize) -> usize
     ensures { λ r. ⌜ r ≡ end - at ⌝ }

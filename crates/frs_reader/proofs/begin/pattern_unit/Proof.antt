@@ -12,20 +12,20 @@ returns-2 c = pattern-other (c .before .before .before .before .before .before .
 
 returns-3 : tie.Need-returns-3
 returns-3 c =
-    part-refused (c .refuse .ensures)
+    part-refused (c .refuse-part .ensures)
     (pattern-header (c .before .before .before .before .before .before .before .before .args .words .now) (c .before .before .before .before .before .before .before .before .args .at) (c .before .before .before .before .before .if1 .left) (rw (← c .before .before .before .before .word .ensures) (sym (c .before .before .before .geo-of .ensures) ∙ c .before .before .if2 .left)) (λ e. c .before .if3 .taken (c .before .before .before .before .word .ensures ∙ e)))
 
 returns-4 : tie.Need-returns-4
-returns-4 c = part-refused (c .refuse2 .ensures) (pattern-short (c .before .before .before .before .before .before .before .before .before .args .words .now) (c .before .before .before .before .before .before .before .before .before .args .at) (c .before .before .before .before .before .before .if1 .left) (sym (c .before .before .before .before .before .word .ensures) ∙ c .before .before .if3 .left) (c .before .if4 .taken))
+returns-4 c = part-refused (c .refuse-part2 .ensures) (pattern-short (c .before .before .before .before .before .before .before .before .before .args .words .now) (c .before .before .before .before .before .before .before .before .before .args .at) (c .before .before .before .before .before .before .if1 .left) (sym (c .before .before .before .before .before .word .ensures) ∙ c .before .before .if3 .left) (c .before .if4 .taken))
 
 returns-5 : tie.Need-returns-5
-returns-5 c = part-refused (c .refuse3 .ensures) (pattern-register (c .before .before .before .before .before .before .before .before .before .before .before .before .args .words .now) (c .before .before .before .before .before .before .before .before .before .before .before .before .args .at) (c .before .before .before .before .before .before .before .before .before .if1 .left) (sym (c .before .before .before .before .before .before .before .before .word .ensures) ∙ c .before .before .before .before .before .if3 .left) (omega (arith, c .before .before .before .before .if4 .left)) (denied _ (rw (c .before .before .before .word2 .ensures) at (c .before .before .is-under .ensures)) (c .before .if5 .taken)))
+returns-5 c = part-refused (c .refuse-part3 .ensures) (pattern-register (c .before .before .before .before .before .before .before .before .before .before .before .before .args .words .now) (c .before .before .before .before .before .before .before .before .before .before .before .before .args .at) (c .before .before .before .before .before .before .before .before .before .if1 .left) (sym (c .before .before .before .before .before .before .before .before .word .ensures) ∙ c .before .before .before .before .before .if3 .left) (omega (arith, c .before .before .before .before .if4 .left)) (denied _ (rw (c .before .before .before .word2 .ensures) at (c .before .before .is-under .ensures)) (c .before .if5 .taken)))
 
 returns-6 : tie.Need-returns-6
-returns-6 c = part-refused (c .refuse4 .ensures) (pattern-multiplicity (c .before .before .before .before .before .before .before .before .before .before .before .before .before .before .before .args .words .now) (c .before .before .before .before .before .before .before .before .before .before .before .before .before .before .before .args .at) (c .before .before .before .before .before .before .before .before .before .before .before .before .if1 .left) (sym (c .before .before .before .before .before .before .before .before .before .before .before .word .ensures) ∙ c .before .before .before .before .before .before .before .before .if3 .left) (omega (arith, c .before .before .before .before .before .before .before .if4 .left)) (granted _ (rw (c .before .before .before .before .before .before .word2 .ensures) at (c .before .before .before .before .before .is-under .ensures)) (c .before .before .before .before .if5 .left)) (denied _ (rw (c .before .before .before .word3 .ensures) at (c .before .before .is-under2 .ensures)) (c .before .if6 .taken)))
+returns-6 c = part-refused (c .refuse-part4 .ensures) (pattern-multiplicity (c .before .before .before .before .before .before .before .before .before .before .before .before .before .before .before .args .words .now) (c .before .before .before .before .before .before .before .before .before .before .before .before .before .before .before .args .at) (c .before .before .before .before .before .before .before .before .before .before .before .before .if1 .left) (sym (c .before .before .before .before .before .before .before .before .before .before .before .word .ensures) ∙ c .before .before .before .before .before .before .before .before .if3 .left) (omega (arith, c .before .before .before .before .before .before .before .if4 .left)) (granted _ (rw (c .before .before .before .before .before .before .word2 .ensures) at (c .before .before .before .before .before .is-under .ensures)) (c .before .before .before .before .if5 .left)) (denied _ (rw (c .before .before .before .word3 .ensures) at (c .before .before .is-under2 .ensures)) (c .before .if6 .taken)))
 
 returns-7 : tie.Need-returns-7
-returns-7 c = part-refused (c .refuse5 .ensures) (pattern-footer (c .before .before .before .before .before .before .before .before .before .before .before .before .before .before .before .before .before .args .words .now) (c .before .before .before .before .before .before .before .before .before .before .before .before .before .before .before .before .before .args .at) (c .before .before .before .before .before .before .before .before .before .before .before .before .before .before .if1 .left) (sym (c .before .before .before .before .before .before .before .before .before .before .before .before .before .word .ensures) ∙ c .before .before .before .before .before .before .before .before .before .before .if3 .left) (omega (arith, c .before .before .before .before .before .before .before .before .before .if4 .left)) (granted _ (rw (c .before .before .before .before .before .before .before .before .word2 .ensures) at (c .before .before .before .before .before .before .before .is-under .ensures)) (c .before .before .before .before .before .before .if5 .left)) (granted _ (rw (c .before .before .before .before .before .word3 .ensures) at (c .before .before .before .before .is-under2 .ensures)) (c .before .before .before .if6 .left)) (λ e. c .before .if7 .taken (c .before .before .word4 .ensures ∙ e)))
+returns-7 c = part-refused (c .refuse-part5 .ensures) (pattern-footer (c .before .before .before .before .before .before .before .before .before .before .before .before .before .before .before .before .before .args .words .now) (c .before .before .before .before .before .before .before .before .before .before .before .before .before .before .before .before .before .args .at) (c .before .before .before .before .before .before .before .before .before .before .before .before .before .before .if1 .left) (sym (c .before .before .before .before .before .before .before .before .before .before .before .before .before .word .ensures) ∙ c .before .before .before .before .before .before .before .before .before .before .if3 .left) (omega (arith, c .before .before .before .before .before .before .before .before .before .if4 .left)) (granted _ (rw (c .before .before .before .before .before .before .before .before .word2 .ensures) at (c .before .before .before .before .before .before .before .is-under .ensures)) (c .before .before .before .before .before .before .if5 .left)) (granted _ (rw (c .before .before .before .before .before .word3 .ensures) at (c .before .before .before .before .is-under2 .ensures)) (c .before .before .before .if6 .left)) (λ e. c .before .if7 .taken (c .before .before .word4 .ensures ∙ e)))
 
 returns-8 : tie.Need-returns-8
 returns-8 c = pattern-read (c .before .before .before .before .before .before .before .before .before .before .before .before .before .before .before .before .before .before .before .before .args .words .now) (c .before .before .before .before .before .before .before .before .before .before .before .before .before .before .before .before .before .before .before .before .args .at) (c .before .before .before .before .before .before .before .before .before .before .before .before .before .before .before .before .before .if1 .left) (sym (c .before .before .before .before .before .before .before .before .before .before .before .before .before .before .before .before .word .ensures) ∙ c .before .before .before .before .before .before .before .before .before .before .before .before .before .if3 .left) (omega (arith, c .before .before .before .before .before .before .before .before .before .before .before .before .if4 .left)) (granted _ (rw (c .before .before .before .before .before .before .before .before .before .before .before .word2 .ensures) at (c .before .before .before .before .before .before .before .before .before .before .is-under .ensures)) (c .before .before .before .before .before .before .before .before .before .if5 .left)) (granted _ (rw (c .before .before .before .before .before .before .before .before .word3 .ensures) at (c .before .before .before .before .before .before .before .is-under2 .ensures)) (c .before .before .before .before .before .before .if6 .left)) (sym (c .before .before .before .before .before .word4 .ensures) ∙ c .before .before .before .before .if7 .left) (search needs) (c .before .before .before .before .before .before .before .before .before .before .before .word2 .ensures) (c .before .before .before .before .before .before .before .before .word3 .ensures) (c .before .before .store-row .ensures)

@@ -8,17 +8,17 @@ use Rattle.frs_reader.proofs.begin.scaler.Statement.{statement}
 use Rattle.frs_reader.proofs.begin.scaler.Tie as tie
 
 returns : tie.Need-returns
-returns c = part-refused (c .refuse .ensures) (scaler-low (c .before .before .before .before .before .args .words .now) (search needs) (omega (arith, c .before .before .word .ensures)))
+returns c = part-refused (c .refuse-part .ensures) (scaler-low (c .before .before .before .before .before .args .words .now) (search needs) (omega (arith, c .before .before .word .ensures)))
 
 returns-2 : tie.Need-returns-2
-returns-2 c = part-refused (c .refuse2 .ensures) (scaler-high (c .before .before .before .before .before .before .args .words .now) (search needs) (omega (arith, c .before .before .before .word .ensures)))
+returns-2 c = part-refused (c .refuse-part2 .ensures) (scaler-high (c .before .before .before .before .before .before .args .words .now) (search needs) (omega (arith, c .before .before .before .word .ensures)))
 
 returns-3 : tie.Need-returns-3
-returns-3 c = part-refused (c .refuse3 .ensures) (scaler-short (c .before .before .before .before .before .before .before .args .words .now) (search needs) (omega arith) (omega arith) (omega (arith, c .before .before .before .before .word .ensures)) (c .before .if3 .taken))
+returns-3 c = part-refused (c .refuse-part3 .ensures) (scaler-short (c .before .before .before .before .before .before .before .args .words .now) (search needs) (omega arith) (omega arith) (omega (arith, c .before .before .before .before .word .ensures)) (c .before .if3 .taken))
 
 returns-4 : tie.Need-returns-4
 returns-4 c =
-    part-refused (c .refuse4 .ensures)
+    part-refused (c .refuse-part4 .ensures)
     (scaler-footer (c .before .before .before .before .before .before .before .before .before .before .before .before .before .before .before .before .before .args .words .now) (search needs) (omega arith) (omega arith) (omega (arith, c .before .before .before .before .before .before .before .before .before .before .before .before .before .before .word .ensures)) (λ i. omega (arith, c .before .before .before .before .before .before .before .before .before .before .before .before .before .before .before .before .shared-slice-known .given i)) (c .before .before .before .before .before .before .before .before .before .before .before .if3 .left) (λ e. c .before .if4 .taken (c .before .before .word2 .ensures ∙ e)))
 
 returns-5 : tie.Need-returns-5

@@ -8,13 +8,13 @@ use Rattle.frs_writer.proofs.begin.begin.Statement.{statement}
 use Rattle.frs_writer.proofs.begin.begin.Tie as tie
 
 returns : tie.Need-returns
-returns c = stamp-refused _ _ (c .before .before .before .row-at .ensures) (c .before .before .stamp-fault .ensures) (c .before .if1 .taken) (c .refuse .ensures)
+returns c = stamp-refused _ _ (c .before .before .before .row-at .ensures) (c .before .before .stamp-fault .ensures) (c .before .if1 .taken) (c .refuse-part .ensures)
 
 scaler-requires : tie.Need-scaler-requires
 scaler-requires c κs = block-there (rowsIn (c .before .before .before .before .before .before .before .before .before .before .args .rows .now)) (c .before .before .before .before .before .before .before .before .before .before .args .words .now) (c .before .before .before .before .before .before .before .row-at .ensures) (sym (c .before .before .before .before .before .if1 .left) ∙ c .before .before .before .before .before .before .stamp-fault .ensures)
 
 returns-2 : tie.Need-returns-2
-returns-2 c = scaler-refused _ _ (c .before .before .before .before .before .before .before .before .before .before .before .before .before .before .row-at .ensures) (sym (c .before .before .before .before .before .before .before .before .before .before .before .before .if1 .left) ∙ c .before .before .before .before .before .before .before .before .before .before .before .before .before .stamp-fault .ensures) (c .before .before .before .before .before .before .scaler .ensures) (c .before .before .scaled .given .1) (c .refuse2 .ensures)
+returns-2 c = scaler-refused _ _ (c .before .before .before .before .before .before .before .before .before .before .before .before .before .before .row-at .ensures) (sym (c .before .before .before .before .before .before .before .before .before .before .before .before .if1 .left) ∙ c .before .before .before .before .before .before .before .before .before .before .before .before .before .stamp-fault .ensures) (c .before .before .before .before .before .before .scaler .ensures) (c .before .before .scaled .given .1) (c .refuse-part2 .ensures)
 
 returns-3 : tie.Need-returns-3
 returns-3 c = begins _ _ (c .before .before .before .before .before .before .before .before .before .before .before .before .before .before .before .before .before .row-at .ensures) (sym (c .before .before .before .before .before .before .before .before .before .before .before .before .before .before .before .if1 .left) ∙ c .before .before .before .before .before .before .before .before .before .before .before .before .before .before .before .before .stamp-fault .ensures) (c .before .before .before .before .before .before .before .before .before .scaler .ensures) (c .before .before .before .before .before .scaled2 .given .1) _ (c .before .before .before .before .before .before .before .before .before .before .before .before .before .store-stamp .ensures) (c .before .before .pattern-unit .ensures)

@@ -13,7 +13,7 @@ returns : tie.Need-returns
 returns c = no-pattern _ _ _ _ (c .before .before .row-at .ensures) (c .if1 .taken) (c .before .before .before .before .before .pre .0) (c .before .before .before .before .before .pre .1)
 
 returns-2 : tie.Need-returns-2
-returns-2 c = pattern-refused _ _ _ _ (c .before .before .before .before .before .row-at .ensures) (c .before .before .before .if1 .left) _ (c .before .before .pattern-fault .ensures) (c .before .if2 .taken) (c .refuse .ensures)
+returns-2 c = pattern-refused _ _ _ _ (c .before .before .before .before .before .row-at .ensures) (c .before .before .before .if1 .left) _ (c .before .before .pattern-fault .ensures) (c .before .if2 .taken) (c .refuse-part .ensures)
 
 store-pattern-requires : tie.Need-store-pattern-requires
 store-pattern-requires c κs = let k = pattern-judged _ .kept (sym (c .before .if2 .left) ∙ c .before .before .pattern-fault .ensures) in (omega (arith, pattern-there (rowsIn (c .before .before .before .before .before .before .before .before .args .rows .now)) (c .before .before .before .before .before .before .before .before .args .at) (c .before .before .before .before .before .before .before .before .args .count) (c .before .before .before .before .before .before .before .before .args .words .now) (c .before .before .before .before .before .row-at .ensures) (sym (c .before .if2 .left) ∙ c .before .before .pattern-fault .ensures), rows-count (c .before .before .before .before .before .before .before .before .args .rows .now), c .before .before .before .before .before .before .before .before .pre .1), k .1, k .2)

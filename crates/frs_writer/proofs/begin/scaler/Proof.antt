@@ -10,7 +10,7 @@ use Rattle.frs_writer.proofs.begin.scaler.Statement.{statement}
 use Rattle.frs_writer.proofs.begin.scaler.Tie as tie
 
 returns : tie.Need-returns
-returns c = block-refused _ _ (c .before .before .before .row-at .ensures) _ (c .before .before .block-fault .ensures) (c .before .if1 .taken) (c .refuse .ensures)
+returns c = block-refused _ _ (c .before .before .before .row-at .ensures) _ (c .before .before .block-fault .ensures) (c .before .if1 .taken) (c .refuse-part .ensures)
 
 scalers-requires : tie.Need-scalers-requires
 scalers-requires c κs = (block-judged _ .kept (sym (c .before .before .before .before .before .before .if1 .left) ∙ c .before .before .before .before .before .before .before .block-fault .ensures) .2, scalers-there (rowsIn (c .before .before .before .before .before .before .before .before .before .before .before .args .rows .now)) (c .before .before .before .before .before .before .before .before .before .before .before .args .words .now) (c .before .before .before .before .before .before .before .before .row-at .ensures) (sym (c .before .before .before .before .before .before .if1 .left) ∙ c .before .before .before .before .before .before .before .block-fault .ensures))
@@ -19,7 +19,7 @@ add-t21 : tie.Need-add-t21
 add-t21 c = omega (arith, (rw (c .before .before .before .before .before .scaled2 .given .1) at (c .before .before .before .before .before .before .before .before .before .scalers .ensures)) .within, rows-count (c .before .before .before .before .before .before .before .before .before .before .before .before .before .before .before .before .before .before .before .before .before .args .rows .now))
 
 returns-2 : tie.Need-returns-2
-returns-2 c = scalers-refused _ _ (c .before .before .before .before .before .before .before .before .before .before .before .before .before .before .before .row-at .ensures) (sym (c .before .before .before .before .before .before .before .before .before .before .before .before .before .if1 .left) ∙ c .before .before .before .before .before .before .before .before .before .before .before .before .before .before .block-fault .ensures) (c .before .before .before .before .before .before .scalers .ensures) _ (c .before .before .scaled .given .1) (c .refuse2 .ensures)
+returns-2 c = scalers-refused _ _ (c .before .before .before .before .before .before .before .before .before .before .before .before .before .before .before .row-at .ensures) (sym (c .before .before .before .before .before .before .before .before .before .before .before .before .before .if1 .left) ∙ c .before .before .before .before .before .before .before .before .before .before .before .before .before .before .block-fault .ensures) (c .before .before .before .before .before .before .scalers .ensures) _ (c .before .before .scaled .given .1) (c .refuse-part2 .ensures)
 
 returns-3 : tie.Need-returns-3
 returns-3 c = block-done _ _ (c .before .before .before .before .before .before .before .before .before .before .before .before .before .before .before .before .before .before .row-at .ensures) (sym (c .before .before .before .before .before .before .before .before .before .before .before .before .before .before .before .before .if1 .left) ∙ c .before .before .before .before .before .before .before .before .before .before .before .before .before .before .before .before .before .block-fault .ensures) (c .before .before .before .before .before .before .before .before .before .scalers .ensures) (c .before .before .before .before .before .scaled2 .given .1) (c .before .before .before .before .before .before .before .before .before .before .before .before .before .store-word32 .ensures) (c .before .before .store-word322 .ensures)

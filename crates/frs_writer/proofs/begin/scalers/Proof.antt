@@ -17,7 +17,7 @@ abbrev μ-loop : tie.MeasureT-loop
 μ-loop rows n words₀ index₀ i₀ at₀ words index i at = n - index
 
 returns : tie.Need-returns Inv-loop μ-loop
-returns c = scaler-refused (c .before .before .before .before .before .loop .inv) (c .before .before .before .before .loop-test .taken) (c .before .before .before .row-at .ensures) _ (c .before .before .scaler-fault .ensures) (c .before .if1 .taken) (c .refuse .ensures)
+returns c = scaler-refused (c .before .before .before .before .before .loop .inv) (c .before .before .before .before .loop-test .taken) (c .before .before .before .row-at .ensures) _ (c .before .before .scaler-fault .ensures) (c .before .if1 .taken) (c .refuse-part .ensures)
 
 add-i : tie.Need-add-i Inv-loop μ-loop
 add-i c = omega (arith, c .before .before .before .before .before .before .before .before .loop .inv .inside, rows-count (c .before .before .before .before .before .before .before .before .before .before .before .args .rows .now))

@@ -1,13 +1,12 @@
 -- `lay::modules` meets its contract. Assumes nothing.
 use Prim.Native.Nat.{_-_}
 use native.Mathlib.Omega.{arith}
-use mathlib.Core.Path.{_∙_}
 use lib.ListN.{length}
 use Rattle.event.specs.Writing.{rowsIn}
 use Rattle.event.proofs.ChannelLaws.{blocked-none}
 use Rattle.event.proofs.RowsIn.{rows-count}
 use Rattle.event.proofs.Turns.{begin}
-use Rattle.frs_writer.proofs.Modules.{Modules, modules-done, part-same, module-refused, fits, module-taken}
+use Rattle.frs_writer.proofs.Modules.{Modules, modules-done, module-refused, module-within, module-taken}
 use borrow.Author.Needs.{needs}
 use Rattle.frs_writer.proofs.lay.modules.Statement.{statement}
 use Rattle.frs_writer.proofs.lay.modules.Tie as tie
@@ -18,20 +17,17 @@ Inv-loop rows first words₀ laid i₀ at₀ seen₀ words i at seen = Modules (
 abbrev μ-loop : tie.MeasureT-loop
 μ-loop rows first words₀ laid i₀ at₀ seen₀ words i at seen = length (rowsIn rows) - i
 
-same-length : tie.Need-same-length Inv-loop μ-loop
-same-length c = part-same (c .before .before .before .before .before .before .before .before .before .before .loop .words) (c .before .before .before .before .before .before .one-module .last .1 .1 .1 .0) (omega (arith, c .before .before .before .before .before .before .before .before .smaller .ensures)) (c .before .before .before .before .before .before .one-module .kept .1 .1 .1 .0) ∙ c .before .before .before .before .before .before .before .before .before .before .loop .inv .same
-
 returns : tie.Need-returns Inv-loop μ-loop
-returns c = module-refused (c .before .before .before .before .before .before .before .before .before .before .loop .inv) (omega (arith, c .before .before .before .before .before .before .before .before .before .loop-test .taken, rows-count (c .before .before .before .before .before .before .before .before .before .before .before .before .before .args .rows .now))) (c .before .before .before .before .before .before .before .before .smaller .ensures) (c .before .before .before .before .before .before .one-module .ensures) _ (c .before .before .given .given .1) (c .refuse .ensures)
+returns c = module-refused (c .before .before .before .before .before .before .before .before .before .before .loop .inv) (omega (arith, c .before .before .before .before .before .before .before .before .before .loop-test .taken, rows-count (c .before .before .before .before .before .before .before .before .before .before .before .before .before .args .rows .now))) (c .before .before .before .before .before .before .before .before .part-start .ensures) (c .before .before .before .before .before .before .one-module .ensures) _ (c .before .before .given .given .1) (c .refuse-part .ensures)
 
 add-at : tie.Need-add-at Inv-loop μ-loop
-add-at c = let f = fits (c .before .before .before .before .before .before .before .before .before .before .before .loop .inv) (omega (arith, c .before .before .before .before .before .before .before .before .before .before .loop-test .taken, rows-count (c .before .before .before .before .before .before .before .before .before .before .before .before .before .before .args .rows .now))) (c .before .before .before .before .before .before .before .before .before .smaller .ensures) (c .before .before .before .before .before .before .before .one-module .ensures) (c .before .before .before .given2 .given .1) in omega (arith, f .1, f .2, rows-count (c .before .before .before .before .before .before .before .before .before .before .before .before .before .before .args .rows .now), c .before .before .before .before .before .before .before .before .before .before .before .before .before .before .good .0)
+add-at c = let f = module-within (c .before .before .before .before .before .before .before .before .before .before .before .loop .inv) (omega (arith, c .before .before .before .before .before .before .before .before .before .before .loop-test .taken, rows-count (c .before .before .before .before .before .before .before .before .before .before .before .before .before .before .args .rows .now))) (c .before .before .before .before .before .before .before .before .before .part-start .ensures) (c .before .before .before .before .before .before .before .one-module .ensures) (c .before .before .before .given2 .given .1) in omega (arith, f, rows-count (c .before .before .before .before .before .before .before .before .before .before .before .before .before .before .args .rows .now), c .before .before .before .before .before .before .before .before .before .before .before .before .before .before .good .0)
 
 loop-less : tie.Need-loop-less Inv-loop μ-loop
-loop-less c = let f = fits (c .before .before .before .before .before .before .before .before .before .before .before .loop .inv) (omega (arith, c .before .before .before .before .before .before .before .before .before .before .loop-test .taken, rows-count (c .before .before .before .before .before .before .before .before .before .before .before .before .before .before .args .rows .now))) (c .before .before .before .before .before .before .before .before .before .smaller .ensures) (c .before .before .before .before .before .before .before .one-module .ensures) (c .before .before .before .given2 .given .1) in omega (arith, f .0, f .1)
+loop-less c = let f = module-within (c .before .before .before .before .before .before .before .before .before .before .before .loop .inv) (omega (arith, c .before .before .before .before .before .before .before .before .before .before .loop-test .taken, rows-count (c .before .before .before .before .before .before .before .before .before .before .before .before .before .before .args .rows .now))) (c .before .before .before .before .before .before .before .before .before .part-start .ensures) (c .before .before .before .before .before .before .before .one-module .ensures) (c .before .before .before .given2 .given .1) in omega (arith, f)
 
 loop-again : tie.Need-loop-again Inv-loop μ-loop
-loop-again c = module-taken (c .before .before .before .before .before .before .before .before .before .before .before .loop .inv) (omega (arith, c .before .before .before .before .before .before .before .before .before .before .loop-test .taken, rows-count (c .before .before .before .before .before .before .before .before .before .before .before .before .before .before .args .rows .now))) (c .before .before .before .before .before .before .before .before .before .smaller .ensures) (c .before .before .before .before .before .before .before .one-module .ensures) (c .before .before .before .given2 .given .1) (c .before .before .before .before .before .before .before .one-module .kept .1 .1 .1 .0) (c .before .row-at .ensures) (c .with-channel .ensures)
+loop-again c = module-taken (c .before .before .before .before .before .before .before .before .before .before .before .loop .inv) (omega (arith, c .before .before .before .before .before .before .before .before .before .before .loop-test .taken, rows-count (c .before .before .before .before .before .before .before .before .before .before .before .before .before .before .args .rows .now))) (c .before .before .before .before .before .before .before .before .before .part-start .ensures) (c .before .before .before .before .before .before .before .one-module .ensures) (c .before .before .before .given2 .given .1) (c .before .row-at .ensures) (c .with-channel .ensures)
 
 pub modules-spec : {M : Type 1} → statement M
 modules-spec =
@@ -48,7 +44,7 @@ modules-spec =
     (λ c κs. omega (arith, c .before .before .before .loop .inv .inside))
     (λ c. search needs)
     (λ c κs. search needs)
-    same-length
+    (λ c. search needs)
     returns
     (λ c. search needs)
     (λ c κs. search needs)

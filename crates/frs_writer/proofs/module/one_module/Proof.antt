@@ -10,7 +10,7 @@ use Rattle.frs_writer.proofs.module.one_module.Statement.{statement}
 use Rattle.frs_writer.proofs.module.one_module.Tie as tie
 
 returns : tie.Need-returns
-returns c = header-refused _ _ _ _ (c .before .before .before .row-at .ensures) _ (c .before .before .header-fault .ensures) (c .before .if1 .taken) (c .refuse .ensures)
+returns c = header-refused _ _ _ _ (c .before .before .before .row-at .ensures) _ (c .before .before .header-fault .ensures) (c .before .if1 .taken) (c .refuse-part .ensures)
 
 longword-requires : tie.Need-longword-requires
 longword-requires c κs = omega (arith, empty-keeps _ _ (sym (c .before .before .before .if1 .left) ∙ c .before .before .before .before .header-fault .ensures) (c .before .if2 .taken))
@@ -37,7 +37,7 @@ add-t30 : tie.Need-add-t30
 add-t30 c = omega (arith, (rw (c .before .before .before .before .before .before .given2 .given .1) at (c .before .before .before .before .before .before .before .before .before .before .values .ensures)) .within, rows-count (c .before .before .before .before .before .before .before .before .before .before .before .before .before .before .before .before .before .before .before .before .before .before .before .before .args .rows .now), c .before .before .before .before .before .before .before .before .before .before .before .before .before .before .before .before .before .before .before .before .before .before .before .before .good .0)
 
 returns-3 : tie.Need-returns-3
-returns-3 c = values-refused _ _ _ _ (c .before .before .before .before .before .before .before .before .before .before .before .before .before .before .before .before .before .row-at .ensures) (sym (c .before .before .before .before .before .before .before .before .before .before .before .before .before .before .before .if1 .left) ∙ c .before .before .before .before .before .before .before .before .before .before .before .before .before .before .before .before .header-fault .ensures) (c .before .before .before .before .before .before .before .before .before .before .before .before .before .if2 .left) (c .before .before .before .before .before .before .values .ensures) _ (c .before .before .given .given .1) (c .refuse2 .ensures)
+returns-3 c = values-refused _ _ _ _ (c .before .before .before .before .before .before .before .before .before .before .before .before .before .before .before .before .before .row-at .ensures) (sym (c .before .before .before .before .before .before .before .before .before .before .before .before .before .before .before .if1 .left) ∙ c .before .before .before .before .before .before .before .before .before .before .before .before .before .before .before .before .header-fault .ensures) (c .before .before .before .before .before .before .before .before .before .before .before .before .before .if2 .left) (c .before .before .before .before .before .before .values .ensures) _ (c .before .before .given .given .1) (c .refuse-part2 .ensures)
 
 returns-4 : tie.Need-returns-4
 returns-4 c = data-done _ _ _ _ (c .before .before .before .before .before .before .before .before .before .before .before .before .before .before .before .before .before .before .before .before .before .row-at .ensures) (sym (c .before .before .before .before .before .before .before .before .before .before .before .before .before .before .before .before .before .before .before .if1 .left) ∙ c .before .before .before .before .before .before .before .before .before .before .before .before .before .before .before .before .before .before .before .before .header-fault .ensures) (c .before .before .before .before .before .before .before .before .before .before .before .before .before .before .before .before .before .if2 .left) (c .before .before .before .before .before .before .before .before .before .before .values .ensures) (c .before .before .before .before .before .before .given2 .given .1) (c .before .before .before .before .before .before .before .before .before .before .before .before .before .before .before .longword2 .ensures) (c .before .before .before .before .before .before .before .before .before .before .before .before .before .before .store-word322 .ensures) (c .before .before .before .longword3 .ensures) (c .before .before .store-word323 .ensures)

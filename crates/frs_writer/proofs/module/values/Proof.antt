@@ -19,7 +19,7 @@ abbrev μ-loop : tie.MeasureT-loop
 μ-loop rows first geo n words₀ left₀ i₀ at₀ seen₀ words left i at seen = left
 
 returns : tie.Need-returns Inv-loop μ-loop
-returns c = value-refused _ (c .before .before .before .before .before .loop .inv .0) (c .before .before .before .before .loop-test .taken) (c .before .before .before .row-at .ensures) _ (c .before .before .value-fault .ensures) (c .before .if1 .taken) (c .refuse .ensures)
+returns c = value-refused _ (c .before .before .before .before .before .loop .inv .0) (c .before .before .before .before .loop-test .taken) (c .before .before .before .row-at .ensures) _ (c .before .before .value-fault .ensures) (c .before .if1 .taken) (c .refuse-part .ensures)
 
 longword-requires : tie.Need-longword-requires Inv-loop μ-loop
 longword-requires c κs = (c .before .before .before .before .before .before .loop .inv .1, omega arith, omega (arith, value-fields _ _ _ (sym (c .before .before .if1 .left) ∙ c .before .before .before .value-fault .ensures)))

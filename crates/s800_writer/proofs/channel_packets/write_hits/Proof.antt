@@ -1,6 +1,6 @@
 -- `channel_packets::write_hits` meets its contract. Assumes nothing.
 use native.Mathlib.Omega.{arith}
-use mathlib.Core.Path.{refl, sym, _∙_}
+use mathlib.Core.Path.{sym, _∙_}
 use Rattle.event.specs.Writing.{rowsIn}
 use Rattle.event.proofs.RowsIn.{rows-count}
 use Rattle.s800_layout.specs.Layout.{registerWords}
@@ -11,7 +11,7 @@ use Rattle.s800_writer.proofs.channel_packets.write_hits.Statement.{sta
 use Rattle.s800_writer.proofs.channel_packets.write_hits.Tie as tie
 
 returns : tie.Need-returns
-returns c = writes-refused 16 registerWords (hits-refused (rowsIn (c .before .before .before .before .before .before .args .rows .now)) (c .before .before .before .before .before .before .args .at) (c .before .before .before .row-at .ensures) (c .before .before .limits-fault .ensures) (c .before .if1 .taken)) (c .refuse .ensures)
+returns c = writes-refused 16 registerWords (hits-refused (rowsIn (c .before .before .before .before .before .before .args .rows .now)) (c .before .before .before .before .before .before .args .at) (c .before .before .before .row-at .ensures) (c .before .before .limits-fault .ensures) (c .before .if1 .taken)) (c .refuse-part .ensures)
 
 add-t10 : tie.Need-add-t10
 add-t10 c = omega (arith, rows-count (c .before .before .before .before .before .before .before .before .before .before .before .before .before .before .before .before .before .before .before .before .args .rows .now), hits-inside (rowsIn (c .before .before .before .before .before .before .before .before .before .before .before .before .before .before .before .before .before .before .before .before .args .rows .now)) (c .before .before .before .before .before .before .before .before .before .before .before .before .before .before .before .before .before .before .before .before .args .at) (c .before .before .before .before .before .before .before .before .before .before .before .before .before .before .before .before .before .row-at .ensures) (sym (c .before .before .before .before .before .before .before .before .before .before .before .before .before .before .before .if1 .left) ∙ (c .before .before .before .before .before .before .before .before .before .before .before .before .before .before .before .before .limits-fault .ensures)))

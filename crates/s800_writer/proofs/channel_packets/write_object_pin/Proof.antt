@@ -1,6 +1,6 @@
 -- `channel_packets::write_object_pin` meets its contract. Assumes nothing.
 use native.Mathlib.Omega.{arith}
-use mathlib.Core.Path.{refl, sym, _∙_}
+use mathlib.Core.Path.{sym, _∙_}
 use Rattle.event.specs.Writing.{rowsIn}
 use Rattle.event.proofs.RowsIn.{rows-count}
 use Rattle.s800_layout.specs.Event.{objectPin}
@@ -11,7 +11,7 @@ use Rattle.s800_writer.proofs.channel_packets.write_object_pin.Statemen
 use Rattle.s800_writer.proofs.channel_packets.write_object_pin.Tie as tie
 
 returns : tie.Need-returns
-returns c = packet-refused objectPin 0 (rowsIn (c .before .before .before .before .before .before .before .args .rows .now)) (c .before .before .before .before .before .before .before .args .own) (pin-refused (rowsIn (c .before .before .before .before .before .before .before .args .rows .now)) (c .before .before .before .before .before .before .before .args .own) (c .before .before .before .row-at .ensures) (c .before .before .before .before .energies .ensures) (c .before .before .channel-fault .ensures) (c .before .if1 .taken)) (c .refuse .ensures)
+returns c = packet-refused objectPin 0 (rowsIn (c .before .before .before .before .before .before .before .args .rows .now)) (c .before .before .before .before .before .before .before .args .own) (pin-refused (rowsIn (c .before .before .before .before .before .before .before .args .rows .now)) (c .before .before .before .before .before .before .before .args .own) (c .before .before .before .row-at .ensures) (c .before .before .before .before .energies .ensures) (c .before .before .channel-fault .ensures) (c .before .if1 .taken)) (c .refuse-part .ensures)
 
 channel-word-requires : tie.Need-channel-word-requires
 channel-word-requires c κs = let s = sound (c .before .before .before .before .energies .result) 0 _ (sym (c .before .if1 .left) ∙ (c .before .before .channel-fault .ensures)) in (omega (arith, rw (c .before .before .before .before .energies .ensures) at (s .low)), s .number)

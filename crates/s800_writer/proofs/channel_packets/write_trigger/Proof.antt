@@ -1,6 +1,6 @@
 -- `channel_packets::write_trigger` meets its contract. Assumes nothing.
 use native.Mathlib.Omega.{arith}
-use mathlib.Core.Path.{refl, sym, _∙_}
+use mathlib.Core.Path.{sym, _∙_}
 use Rattle.event.specs.Writing.{rowsIn}
 use Rattle.event.proofs.RowsIn.{rows-count}
 use Rattle.s800_layout.specs.Event.{trigger}
@@ -10,7 +10,7 @@ use Rattle.s800_writer.proofs.channel_packets.write_trigger.Statement.{
 use Rattle.s800_writer.proofs.channel_packets.write_trigger.Tie as tie
 
 returns : tie.Need-returns
-returns c = packet-refused trigger 0 (rowsIn (c .before .before .before .before .before .before .args .rows .now)) (c .before .before .before .before .before .before .args .own) (pattern-refused (rowsIn (c .before .before .before .before .before .before .args .rows .now)) (c .before .before .before .before .before .before .args .own) (c .before .before .before .row-at .ensures) (c .before .before .limits-fault .ensures) (c .before .if1 .taken)) (c .refuse .ensures)
+returns c = packet-refused trigger 0 (rowsIn (c .before .before .before .before .before .before .args .rows .now)) (c .before .before .before .before .before .before .args .own) (pattern-refused (rowsIn (c .before .before .before .before .before .before .args .rows .now)) (c .before .before .before .before .before .before .args .own) (c .before .before .before .row-at .ensures) (c .before .before .limits-fault .ensures) (c .before .if1 .taken)) (c .refuse-part .ensures)
 
 add-write-channels : tie.Need-add-write-channels
 add-write-channels c = omega (arith, rows-count (c .before .before .before .before .before .before .before .before .before .before .args .rows .now), pattern-inside (rowsIn (c .before .before .before .before .before .before .before .before .before .before .args .rows .now)) (c .before .before .before .before .before .before .before .before .before .before .args .own) (c .before .before .before .before .before .before .before .row-at .ensures) (sym (c .before .before .before .before .before .if1 .left) ∙ (c .before .before .before .before .before .before .limits-fault .ensures)))

@@ -1,7 +1,7 @@
 -- `content::write_pairs` meets its contract. Assumes nothing.
 use Prim.Native.Nat.{_-_}
 use native.Mathlib.Omega.{arith}
-use mathlib.Core.Path.{_≡_, refl, sym, _∙_}
+use mathlib.Core.Path.{_≡_, sym, _∙_}
 use lib.ListN.{length}
 use Rattle.event.specs.Writing.{rowsIn}
 use Rattle.event.proofs.RowsIn.{rows-count}

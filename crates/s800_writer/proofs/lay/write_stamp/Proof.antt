@@ -7,10 +7,10 @@ use Rattle.s800_writer.proofs.lay.write_stamp.Statement.{statement}
 use Rattle.s800_writer.proofs.lay.write_stamp.Tie as tie
 
 returns : tie.Need-returns
-returns c = stamp-own (c .before .before .before .before .before .before .args .order) (rowsIn (c .before .before .before .before .before .before .args .rows .now)) (c .before .before .before .row-at .ensures) (c .before .before .own-fault .ensures) (c .before .if1 .taken) (c .refuse .ensures)
+returns c = stamp-own (c .before .before .before .before .before .before .args .order) (rowsIn (c .before .before .before .before .before .before .args .rows .now)) (c .before .before .before .row-at .ensures) (c .before .before .own-fault .ensures) (c .before .if1 .taken) (c .refuse-part .ensures)
 
 returns-2 : tie.Need-returns-2
-returns-2 c = stamp-refused (c .before .before .before .before .before .before .before .before .before .args .order) (rowsIn (c .before .before .before .before .before .before .before .before .before .args .rows .now)) (c .before .before .before .before .before .before .row-at .ensures) (sym (c .before .before .before .before .if1 .left) ∙ (c .before .before .before .before .before .own-fault .ensures)) (c .before .before .before .row-at2 .ensures) (c .before .before .limits-fault .ensures) (c .before .if2 .taken) (c .refuse2 .ensures)
+returns-2 c = stamp-refused (c .before .before .before .before .before .before .before .before .before .args .order) (rowsIn (c .before .before .before .before .before .before .before .before .before .args .rows .now)) (c .before .before .before .before .before .before .row-at .ensures) (sym (c .before .before .before .before .if1 .left) ∙ (c .before .before .before .before .before .own-fault .ensures)) (c .before .before .before .row-at2 .ensures) (c .before .before .limits-fault .ensures) (c .before .if2 .taken) (c .refuse-part2 .ensures)
 
 returns-3 : tie.Need-returns-3
 returns-3 c = stamp-written (c .before .before .before .before .before .before .before .before .before .before .before .before .before .before .before .before .args .order) (rowsIn (c .before .before .before .before .before .before .before .before .before .before .before .before .before .before .before .before .args .rows .now)) (c .before .before .before .before .before .before .before .before .before .before .before .before .before .row-at .ensures) (sym (c .before .before .before .before .before .before .before .before .before .before .before .if1 .left) ∙ (c .before .before .before .before .before .before .before .before .before .before .before .before .own-fault .ensures)) (c .before .before .before .before .before .before .before .before .before .before .row-at2 .ensures) (sym (c .before .before .before .before .before .before .before .before .if2 .left) ∙ (c .before .before .before .before .before .before .before .before .before .limits-fault .ensures)) (c .before .before .before .before .before .before .store-stamp .ensures) refl (c .before .before .close .ensures .0) (c .before .before .close .ensures .1)

@@ -12,7 +12,7 @@ use Rattle.s800_writer.proofs.other_packets.write_anode.Statement.{stat
 use Rattle.s800_writer.proofs.other_packets.write_anode.Tie as tie
 
 returns : tie.Need-returns
-returns c = writes-refused 16 (λ a. framed anodeTag (anodeWords a)) (anode-refused (rowsIn (c .before .before .before .before .before .before .args .rows .now)) (c .before .before .before .before .before .before .args .from) (c .before .before .before .row-at .ensures) (c .before .before .limits-fault .ensures) (c .before .if1 .taken)) (c .refuse .ensures)
+returns c = writes-refused 16 (λ a. framed anodeTag (anodeWords a)) (anode-refused (rowsIn (c .before .before .before .before .before .before .args .rows .now)) (c .before .before .before .before .before .before .args .from) (c .before .before .before .row-at .ensures) (c .before .before .limits-fault .ensures) (c .before .if1 .taken)) (c .refuse-part .ensures)
 
 add-store-word16 : tie.Need-add-store-word16
 add-store-word16 c = omega (arith, rows-count (c .before .before .before .before .before .before .args .rows .now), (c .before .before .before .before .before .before .pre .few), (anode-inside (rowsIn (c .before .before .before .before .before .before .args .rows .now)) (c .before .before .before .before .before .before .args .from) (c .before .before .before .row-at .ensures) (sym (c .before .if1 .left) ∙ (c .before .before .limits-fault .ensures))))

@@ -1,6 +1,6 @@
 -- `other_packets::write_crdc` meets its contract. Assumes nothing.
 use native.Mathlib.Omega.{arith}
-use mathlib.Core.Path.{refl, sym, _∙_}
+use mathlib.Core.Path.{sym, _∙_}
 use Rattle.event.specs.Writing.{rowsIn}
 use Rattle.event.proofs.RowsIn.{rows-count}
 use Rattle.s800_layout.specs.Event.{crdc}
@@ -11,7 +11,7 @@ use Rattle.s800_writer.proofs.other_packets.write_crdc.Statement.{state
 use Rattle.s800_writer.proofs.other_packets.write_crdc.Tie as tie
 
 returns : tie.Need-returns
-returns c = packet-refused crdc (c .before .before .before .before .before .before .args .id) (rowsIn (c .before .before .before .before .before .before .args .rows .now)) (c .before .before .before .before .before .before .args .own) (threshold-refused (c .before .before .before .before .before .before .args .id) (rowsIn (c .before .before .before .before .before .before .args .rows .now)) (c .before .before .before .before .before .before .args .own) (c .before .before .before .row-at .ensures) (c .before .before .limits-fault .ensures) (c .before .if1 .taken)) (c .refuse .ensures)
+returns c = packet-refused crdc (c .before .before .before .before .before .before .args .id) (rowsIn (c .before .before .before .before .before .before .args .rows .now)) (c .before .before .before .before .before .before .args .own) (threshold-refused (c .before .before .before .before .before .before .args .id) (rowsIn (c .before .before .before .before .before .before .args .rows .now)) (c .before .before .before .before .before .before .args .own) (c .before .before .before .row-at .ensures) (c .before .before .limits-fault .ensures) (c .before .if1 .taken)) (c .refuse-part .ensures)
 
 add-write-samples : tie.Need-add-write-samples
 add-write-samples c = omega (arith, rows-count (c .before .before .before .before .before .before .before .before .before .before .before .before .before .before .args .rows .now), (threshold-inside (c .before .before .before .before .before .before .before .before .before .before .before .before .before .before .args .id) (rowsIn (c .before .before .before .before .before .before .before .before .before .before .before .before .before .before .args .rows .now)) (c .before .before .before .before .before .before .before .before .before .before .before .before .before .before .args .own) (c .before .before .before .before .before .before .before .before .before .before .before .row-at .ensures) (sym (c .before .before .before .before .before .before .before .before .before .if1 .left) ∙ (c .before .before .before .before .before .before .before .before .before .before .limits-fault .ensures))))

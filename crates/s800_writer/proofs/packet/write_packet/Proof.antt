@@ -7,7 +7,7 @@ use Rattle.s800_writer.proofs.packet.write_packet.Statement.{statement}
 use Rattle.s800_writer.proofs.packet.write_packet.Tie as tie
 
 returns : tie.Need-returns
-returns c = own-refused (rowsIn (c .before .before .before .before .before .before .args .rows .now)) (c .before .before .before .before .before .before .args .own) (c .before .before .before .row-at .ensures) (c .before .before .header-fault .ensures) (c .before .if1 .taken) (c .refuse .ensures)
+returns c = own-refused (rowsIn (c .before .before .before .before .before .before .args .rows .now)) (c .before .before .before .before .before .before .args .own) (c .before .before .before .row-at .ensures) (c .before .before .header-fault .ensures) (c .before .if1 .taken) (c .refuse-part .ensures)
 
 write-content-requires : tie.Need-write-content-requires
 write-content-requires c κs = let k = own-known (rowsIn (c .before .before .before .before .before .before .args .rows .now)) (c .before .before .before .before .before .before .args .own) (c .before .before .before .row-at .ensures) (sym (c .before .if1 .left) ∙ (c .before .before .header-fault .ensures)) in ((c .before .before .before .before .before .before .pre), k .0, k .1)

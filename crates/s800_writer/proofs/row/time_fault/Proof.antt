@@ -1,5 +1,4 @@
 -- `row::time_fault` meets its contract. Assumes nothing.
-use mathlib.Core.Path.{sym}
 use Rattle.s800_writer.proofs.Faults.{time-kind, time-good, time-bad}
 use Rattle.s800_writer.proofs.row.time_fault.Statement.{statement}
 use Rattle.s800_writer.proofs.row.time_fault.Tie as tie
