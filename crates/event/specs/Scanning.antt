@@ -1,4 +1,4 @@
--- What a scan leaves behind that stores its items one by one, rows (a reading) or words (a writing), each where the buffer has room. (The contracts of
+-- What a scan that stores its items one by one, rows (a reading) or words (a writing), each where the buffer has room, leaves behind. (The contracts of
 -- private functions speak of it; no public one does.)
 -- Assumes nothing.
 use Prim.Native.Nat.{ℕ, _+_, _*_, _≤_}

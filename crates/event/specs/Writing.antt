@@ -39,10 +39,11 @@ rowsIn (k ∷ u ∷ []) = []
 rowsIn (k ∷ u ∷ c ∷ []) = []
 rowsIn (k ∷ u ∷ c ∷ d ∷ xs) = row k u c d ∷ rowsIn xs
 
--- row i of them; past the last one a row of zeros, of a kind that there is not
+-- of kind 0, which no row has
 abbrev pub noRow : Row
 noRow = row 0 0 0 0
 
+-- row i of them, `noRow` past the last
 abbrev pub rowAt : List ℕ → ℕ → Row
 rowAt xs i = getD (rowsIn xs) i noRow
 
@@ -50,7 +51,7 @@ rowAt xs i = getD (rowsIn xs) i noRow
 abbrev pub fromElements : (List Row → Outcome ℕ) → List ℕ → Outcome ℕ
 fromElements writingRows xs = cond (eqb (length xs % 4) 0) (writingRows (rowsIn xs)) (refused 20 0)
 
--- A writing: 20; then 21 and 22, row by row, by the parser of the rows; then 23, more words than the largest event.
+-- A writing: 20; then 21 and 22, row by row, by the parser of the rows; then 23, more words than the largest event. (24 is of the room: `inWordRoom`.)
 abbrev pub writingBy : {Event : Type 0} → (Event → List ℕ) → (largest : ℕ) → Parser Row Event → List ℕ → Outcome ℕ
 writingBy words largest parser = fromElements (λ rs. limited 23 largest (outcome (λ e. done (words e)) (parser 0 rs)))
 

@@ -28,7 +28,7 @@ pub enum Answer {
     Refused { number: u32, place: usize },
 }
 
-// A part of an event: the place after it, and the number of rows (or words) given so far; or a refusal number and its place.
+// A part of an event: the place after it, and the number of rows (or words) given up to there; or a refusal number and its place.
 pub enum Part {
     Done { next: usize, count: usize },
     Refused { number: u32, place: usize },

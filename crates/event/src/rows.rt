@@ -18,7 +18,7 @@ pub fn store_row(rows: &mut [u32], at: usize, row: Row)
     }
 }
 
-// Row `at` of the elements; past the last one a row of zeros, of a kind that there is not.
+// Row `at` of the elements; past the last one a row of zeros: no row has kind 0.
 pub fn row_at(rows: &[u32], at: usize) -> Row
     ensures { λ r. ⌜ r ≡ rowAt (now (rows .entry)) at ⌝ }
 {

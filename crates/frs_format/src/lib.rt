@@ -39,5 +39,5 @@ pub const PATTERN_END: u32 = 0x2c00_0000;
 // A block has at most this many values.
 pub const LARGEST_COUNT: u32 = 32;
 
-// Of the 16 bits below a data longword's channel, the datum's are the numbers under this one.
+// A datum is below this number.
 pub const DATUM_END: u32 = 16384;

@@ -56,7 +56,7 @@ module _ (d : Dialect) (o : StampOrder) where
     read = readingInto d (room (length rows)) o ws
 
     abbrev Back : Answer → List ℕ → Type 0
-    Back = Gives (λ ws. ws) back (wordsBack d (room (length rows)) (length back) o ws)
+    Back = Gives (λ ws. ws) back (wordsBack read (length back) ws)
 
     pub not-read : {n p : ℕ} → Refused n p ≡ answerOf read → Back (Refused n p) back
     not-read e = let q = refused-by read e in record { answered = rw q; written = rw q }
@@ -87,7 +87,7 @@ module _ (d : Dialect) (o : StampOrder) where
     written = writingInto d (length words) o xs
 
     abbrev RowsGiven : Answer → List ℕ → Type 0
-    RowsGiven = Gives flat back (rowsBack d (length words) (room (length back)) o xs)
+    RowsGiven = Gives flat back (rowsBack written (room (length back)) xs)
 
     pub not-written : {n p : ℕ} → Refused n p ≡ answerOf written → RowsGiven (Refused n p) back
     not-written e = let q = refused-by written e in record { answered = rw q; written = rw q }

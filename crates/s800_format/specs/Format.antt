@@ -1,4 +1,4 @@
--- The code's `Format` stands for a channel format of the layout. (The contracts of functions that no user calls.)
+-- The code's `Format` stands for a channel format of the layout: proofs/Formats shows which.
 -- Assumes nothing.
 use Prim.Native.Nat.{ℕ}
 use mathlib.Core.Bool.{Bool, true, false, cond}

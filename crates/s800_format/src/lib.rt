@@ -11,6 +11,15 @@ pub const SMALLEST_EVENT: usize = 14;
 
 pub const LARGEST_EVENT: usize = 4096;
 
+// The third word of an event.
+pub const VERSION: u32 = 5;
+
+// The largest trigger pattern: bits 5-15 are zero.
+pub const LARGEST_PATTERN: u32 = 31;
+
+// The id of a hodoscope's hits; those of its energies are below.
+pub const HITS_ID: u32 = 2;
+
 // The channel words of a packet: the kind of their rows, the row channel of channel 0, whether the number below the channel has
 // 13 bits and not 12, and the channels not allowed, as a set of bits.
 pub struct Format {

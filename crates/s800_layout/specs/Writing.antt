@@ -1,6 +1,6 @@
 -- Writing one event of dialect S from its rows: its words, or the first refusal and its place. Each line is a rule, in the order of document 01.
--- (A row's parser has its kind, its fields and their rules; `rowWith` has the numbers: 21 for a row that may not stand there and for rows that end, 22 for
--- its fields. Some tests never fail on 32-bit fields, and stand here because the same tables serve `Valid`: that a stamp's chunk is below 2 ^ 16, a pad's channel below 2 ^ 6.)
+-- (A row's parser has its kind, its fields and their rules, each with its number: 21 for a row that may not stand there and for rows that end, 22 for its fields. Some
+-- tests never fail on 32-bit fields, and stand here because the same tables serve `Valid`: that a chunk of a stamp, or a low one of an event number, is below 2 ^ 16, a pad's channel below 2 ^ 6.)
 -- Assumes nothing.
 use Prim.Native.Nat.{ℕ, _-_, _/_, _%_, _^_}
 use mathlib.Core.Bool.{Bool, true, cond, _&&_}
@@ -160,5 +160,5 @@ abbrev pub writing : StampOrder → List ℕ → Outcome ℕ
 writing o = writingBy words largestEvent (eventRowsUpTo o ended)
 
 -- into room for so many words: 24 last
-abbrev pub writingInto : ℕ → StampOrder → List ℕ → Outcome ℕ
+abbrev pub writingInto : (room : ℕ) → StampOrder → List ℕ → Outcome ℕ
 writingInto room o xs = inWordRoom room (writing o xs)

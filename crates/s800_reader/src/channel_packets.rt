@@ -34,7 +34,7 @@ pub(crate) fn open_trigger(
         return refuse_packet(refusal::LENGTH, start);
     }
     let pattern = word(words, start + 2);
-    if 31 < pattern {
+    if s800_format::LARGEST_PATTERN < pattern {
         return refuse_packet(refusal::DATA, start + 2);
     }
     store_packet(rows, count, tag::TRIGGER, 0);
@@ -137,10 +137,10 @@ pub(crate) fn open_hodoscope(
         return refuse_packet(refusal::LENGTH, start);
     }
     let id = word(words, start + 2);
-    if 2 < id {
+    if s800_format::HITS_ID < id {
         return refuse_packet(refusal::ID, start + 2);
     }
-    if id == 2 {
+    if id == s800_format::HITS_ID {
         return open_hits(words, start, size, rows, count);
     }
     store_packet(rows, count, tag::HODOSCOPE, id);
@@ -160,7 +160,7 @@ fn open_hits(words: &[u16], start: usize, size: usize, rows: &mut [u32], count: 
     if size != 6 {
         return refuse_packet(refusal::LENGTH, start);
     }
-    store_packet(rows, count, tag::HODOSCOPE, 2);
+    store_packet(rows, count, tag::HODOSCOPE, s800_format::HITS_ID);
     let row = Row {
         kind: kind::HODOSCOPE_HITS,
         unit: word(words, start + 3),

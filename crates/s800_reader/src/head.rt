@@ -34,7 +34,7 @@ fn frame(words: &[u16]) -> Answer
     if word(words, 1) != tag::EVENT {
         return refuse(refusal::EVENT_TAG, 1);
     }
-    if word(words, 2) != 5 {
+    if word(words, 2) != s800_format::VERSION {
         return refuse(refusal::VERSION, 2);
     }
     Answer::Accepted(0)

@@ -20,16 +20,16 @@ use Rattle.s800_layout.specs.Event.{Opaque, Form, trigger, timeOfFlight, scinti
 use Rattle.s800_layout.specs.Layout.{packetWords, idChecks}
 use Rattle.s800_layout.specs.Writing.{ofTag, headerOf, headerRow, packet}
 use Rattle.s800_layout.proofs.Lengths.{form-back}
-use Rattle.s800_writer.specs.Packets.{idsOf, headerFault, WritesPacket}
+use Rattle.s800_writer.specs.Packets.{idCount, headerFault, WritesPacket}
 
 -- the tag of a form, and of none
-pub ids-known : (f : Form) {t : ℕ} → t ≡ tag f → suc (largestId f) ≡ idsOf t
-unfolding idsOf
-ids-known f e = rw (e, form-back f, eq-eqb (tag f) (tag f) refl)
+pub count-known : (f : Form) {t : ℕ} → t ≡ tag f → suc (largestId f) ≡ idCount t
+unfolding idCount
+count-known f e = rw (e, form-back f, eq-eqb (tag f) (tag f) refl)
 
-pub ids-none : (t : ℕ) → ((f : Form) → t ≡ tag f → ⊥) → 0 ≡ idsOf t
-unfolding idsOf
-ids-none t z = rw (ne-eqb (tag (formOf t)) t (λ e. z (formOf t) (sym e)))
+pub count-none : (t : ℕ) → ((f : Form) → t ≡ tag f → ⊥) → 0 ≡ idCount t
+unfolding idCount
+count-none t z = rw (ne-eqb (tag (formOf t)) t (λ e. z (formOf t) (sym e)))
 
 -- a form's tag that is none of the others'
 pub an-opaque : (t : ℕ) → tag (formOf t) ≡ t → ((f : Form) → ((k : Opaque) → f ≡ opaque k → ⊥) → t ≡ tag f → ⊥) → (k : Opaque) × (formOf t ≡ opaque k)
@@ -51,8 +51,8 @@ module _ (r : Row) where
   header-kind z = rw (ne-eqb 1 (r .kind) (λ e. z (sym e)))
 
   module _ (same : r .kind ≡ 1) where
-    pub header-unknown : {n : ℕ} → n ≡ idsOf (r .unit) → n ≡ 0 → 21 ≡ headerFault r
-    unfolding idsOf
+    pub header-unknown : {n : ℕ} → n ≡ idCount (r .unit) → n ≡ 0 → 21 ≡ headerFault r
+    unfolding idCount
     header-unknown e z = go (eqb (tag (formOf (r .unit))) (r .unit)) refl (sym z ∙ e)
       where
         go : (b : Bool) → eqb (tag (formOf (r .unit))) (r .unit) ≡ b → 0 ≡ cond b (suc (largestId (formOf (r .unit)))) 0 → 21 ≡ headerFault r
@@ -60,9 +60,9 @@ module _ (r : Row) where
         go false p q = rw (eq-eqb 1 (r .kind) (sym same), p)
 
     -- a tag of a form: then the id and the datum
-    module _ {n : ℕ} (e : n ≡ idsOf (r .unit)) (z : n ≡ 0 → ⊥) where
+    module _ {n : ℕ} (e : n ≡ idCount (r .unit)) (z : n ≡ 0 → ⊥) where
       known : (eqb (tag (formOf (r .unit))) (r .unit) ≡ true) × (n ≡ suc (largestId (formOf (r .unit))))
-      unfolding idsOf
+      unfolding idCount
       known = go (eqb (tag (formOf (r .unit))) (r .unit)) e
         where
           go : (b : Bool) → n ≡ cond b (suc (largestId (formOf (r .unit)))) 0 → (b ≡ true) × (n ≡ suc (largestId (formOf (r .unit))))

@@ -27,13 +27,13 @@ closed at tag (Refused n p) b = b
 abbrev pub packetAfter : (f : Form) (id : ℕ) → Parser Row Packet
 packetAfter f id = content f id >>= λ c. give (record { form = f; content = c })
 
--- its words at the front of a part of the words, from the row after its own row, i, on
+-- the packet whose own row is row i, at the front of a part of the words
 abbrev pub WritesPacket : Form → ℕ → List Row → ℕ → List ℕ → Part → List ℕ → Type 0
 WritesPacket f id rs i = Writes 16 packetWords (packetAfter f id (i + 1) (drop (i + 1) rs)) rs 0
 
 -- how many ids the packet of a tag may have: 1 where it has none, 0 where the tag is no form's
-unfoldable pub idsOf : (t : ℕ) → ℕ
-idsOf t = cond (eqb (tag (formOf t)) t) (suc (largestId (formOf t))) 0
+unfoldable pub idCount : (t : ℕ) → ℕ
+idCount t = cond (eqb (tag (formOf t)) t) (suc (largestId (formOf t))) 0
 
 -- 21: no row of kind 1, or of no form's tag; 22: its id, or its datum; 0 for none
 abbrev pub headerFault : Row → ℕ

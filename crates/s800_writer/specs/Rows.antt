@@ -40,7 +40,7 @@ datumWords m d = datumWord (formatOf m) d ∷ []
 abbrev pub pairOf : (energy time : Row) → Pair
 pairOf e t = record { energy = datumOf 0 e; time = t .datum }
 
--- rows from i on, after k words of the packet
+-- rows from i on, after k words
 pub record RunAt (rs : List Row) (i k : ℕ) : Type 0 where
   pub inside : i ≤ length rs
   pub few : k ≤ 4 * i

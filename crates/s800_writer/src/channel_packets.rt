@@ -1,5 +1,5 @@
-// The packets of times or energies, and the hodoscope's hits. Each function writes the packet whose own row is row `own`, at the
-// front of `part`.
+// The packets of times or energies, and the hodoscope's hits. A packet's function writes the packet whose own row is row `own`, at
+// the front of `part`.
 use crate::content::channel_word;
 use crate::content::write_channels;
 use crate::part::close;
@@ -31,7 +31,13 @@ pub(crate) fn write_trigger(rows: &[u32], own: usize, part: &mut [u16]) -> Part
     ensures { λ r. ⌜ WritesPacket trigger 0 (rowsIn (now (rows .entry))) own (now (part .entry)) r (now (part .exit)) ⌝ }
 {
     let pattern = row_at(rows, own + 1);
-    let number = limits_fault(pattern, kind::TRIGGER_PATTERN, 0, 0, 31);
+    let number = limits_fault(
+        pattern,
+        kind::TRIGGER_PATTERN,
+        0,
+        0,
+        s800_format::LARGEST_PATTERN,
+    );
     if number != 0 {
         return refuse_part(number, own + 1);
     }
@@ -92,7 +98,7 @@ pub(crate) fn write_hodoscope(rows: &[u32], own: usize, id: u32, part: &mut [u16
     ensures { λ r. ⌜ WritesPacket hodoscope id (rowsIn (now (rows .entry))) own (now (part .entry)) r (now (part .exit)) ⌝ }
 {
     store_word16(part, 2, id as usize);
-    if id == 2 {
+    if id == s800_format::HITS_ID {
         let hits = write_hits(rows, own + 1, part);
         return close(part, 0, tag::HODOSCOPE, hits);
     }

@@ -1,4 +1,5 @@
-// Content rows that come in runs, up to the next packet's own row: their words, from word `first` of the packet on.
+// Content rows that come in runs, up to the next packet's own row, samples up to the anode's: their words, from word `first` of the
+// packet on.
 use crate::row::before_kind;
 use crate::row::channel_fault;
 use crate::row::limits_fault;

@@ -1,13 +1,13 @@
 // Writes one event of dialect S, the S800 event of version 5 (document 01), from its rows.
 mod channel_packets;
 mod content;
-mod lay;
 mod other_packets;
 mod packet;
 mod part;
 mod row;
+mod whole;
 
-use crate::lay::lay;
+use crate::whole::write_event;
 use event::Answer;
 use event::StampOrder;
 use event::refusal;
@@ -29,7 +29,7 @@ pub fn write(rows: &[u32], order: StampOrder, words: &mut [u16]) -> Answer
         };
     }
     let mut none: [u16; 0] = [];
-    let counted = lay(rows, order, &mut none);
+    let counted = write_event(rows, order, &mut none);
     let Answer::Accepted(count) = counted else {
         return counted;
     };
@@ -45,5 +45,5 @@ pub fn write(rows: &[u32], order: StampOrder, words: &mut [u16]) -> Answer
             place: count,
         };
     }
-    lay(rows, order, words)
+    write_event(rows, order, words)
 }

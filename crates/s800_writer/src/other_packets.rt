@@ -1,5 +1,5 @@
-// The packets of pairs, of samples and an anode, of opaque words. Each function writes the packet whose own row is row `own`, at
-// the front of `part`.
+// The packets of pairs, of samples and an anode, of opaque words. A packet's function writes the packet whose own row is row `own`,
+// at the front of `part`.
 use crate::content::write_opaque_words;
 use crate::content::write_pairs;
 use crate::content::write_samples;

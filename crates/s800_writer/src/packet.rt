@@ -25,11 +25,11 @@ ghost use Rattle.event.specs.Writing.{rowsIn};
 ghost use Rattle.s800_layout.specs.Event.{largestId, formOf, tag as tagOf};
 ghost use Rattle.s800_layout.specs.Layout.{packetWords};
 ghost use Rattle.s800_layout.specs.Writing.{packet};
-ghost use Rattle.s800_writer.specs.Packets.{idsOf, headerFault, WritesPacket};
+ghost use Rattle.s800_writer.specs.Packets.{idCount, headerFault, WritesPacket};
 
 // How many ids a packet with this tag may have: 1 where it has none (0 stands in its own row), 0 for a tag of no packet.
-fn ids(tag: u32) -> u32
-    ensures { λ r. ⌜ r ≡ idsOf tag ⌝ }
+fn id_count(tag: u32) -> u32
+    ensures { λ r. ⌜ r ≡ idCount tag ⌝ }
 {
     if is_opaque(tag) {
         return 1;
@@ -54,7 +54,7 @@ fn header_fault(row: Row) -> u32
     if row.kind != kind::PACKET {
         return refusal::KIND;
     }
-    let end = ids(row.unit);
+    let end = id_count(row.unit);
     if end == 0 {
         return refusal::KIND;
     }

@@ -9,7 +9,7 @@ ghost use lib.ListN.{length, replicate};
 ghost use Rattle.write_vectors.specs.Vectors.{orderOf};
 
 // Puts what the writer of the vector's dialect answered and left, and answers where the text ends.
-pub fn show(vector: Vector, rows: &[u32], text: &mut [u8], at: usize) -> usize
+pub(crate) fn show(vector: Vector, rows: &[u32], text: &mut [u8], at: usize) -> usize
     requires { ⌜ vector .room ≤ 4200 ⌝ }
     requires { ⌜ (at ≤ length (now text)) × (64 ≤ length (now text)) ⌝ }
     ensures { λ r. ⌜ r ≤ length (now (text .entry)) ⌝ }

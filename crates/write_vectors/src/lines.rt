@@ -1,5 +1,5 @@
 // A line of the input, 45 bytes: five numbers of eight lower-case hexadecimal digits, a space after each of the first four,
-// a line feed after the fifth. A digit that is none counts as 0; a line that is cut off, or lacks a space or its line feed,
+// a line feed after the fifth. A character that is no such digit counts as 0; a line that is cut off, or lacks a space or its line feed,
 // is malformed.
 ghost use Prim.Native.Nat.{_+_, _≤_};
 ghost use mathlib.Core.Path.{_≡_};
@@ -20,7 +20,7 @@ pub enum Line {
 }
 
 // The line at `place`.
-pub fn read_line(input: &[u8], place: usize) -> Line
+pub(crate) fn read_line(input: &[u8], place: usize) -> Line
     requires { ⌜ place ≤ length (now input) ⌝ }
     ensures { λ r. ⌜ r ≡ lineAt (now (input .entry)) place ⌝ }
     ensures { λ r. ⌜ LineWithin (length (now (input .entry))) place r ⌝ }

@@ -15,13 +15,13 @@ use vectors::read_vector;
 ghost use Prim.Native.Nat.{_≤_, _<_};
 ghost use lib.ListN.{length};
 
-// The place of the next vector, and where the text that waits ends.
+// The place of the next vector, and where the text not yet written ends.
 struct Turn {
     place: usize,
     at: usize,
 }
 
-// Shows the vector at `place`. Where none stands, says so and ends.
+// Shows the vector at `place`. At a malformed one it prints `malformed` and goes to the input's end.
 fn show_vector(input: &[u8], place: usize, elements: &mut [u32], text: &mut [u8], at: usize) -> Turn
     requires { ⌜ place < length (now input) ⌝ }
     requires { ⌜ (at ≤ length (now text)) × (64 ≤ length (now text)) ⌝ }

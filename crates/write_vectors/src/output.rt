@@ -1,4 +1,4 @@
-// The text that waits in a lent buffer, up to `at`, and its way to standard output.
+// The text not yet written, in a lent buffer up to `at`, and its writing to standard output.
 use crate::text::put_answer;
 use crate::text::put_bytes;
 use crate::text::put_run;
@@ -8,13 +8,13 @@ ghost use Prim.Native.Nat.{_+_, _<_, _≤_};
 ghost use lib.ListN.{length};
 ghost use Rattle.write_vectors.specs.Runs.{Run};
 
-pub fn write_text(text: &[u8], at: usize)
+pub(crate) fn write_text(text: &[u8], at: usize)
     requires { ⌜ at ≤ length (now text) ⌝ }
 {
     io::write_all(STDOUT_FILENO, &text[..at]);
 }
 
-// Where the next line may be put: the text that waits is written out where the buffer is nearly full.
+// Where the next line may be put: the text not yet written goes out where the buffer is nearly full.
 fn make_room(text: &[u8], at: usize) -> usize
     requires { ⌜ (at ≤ length (now text)) × (64 ≤ length (now text)) ⌝ }
     ensures { λ r. ⌜ r + 64 ≤ length (now (text .entry)) ⌝ }
@@ -26,7 +26,7 @@ fn make_room(text: &[u8], at: usize) -> usize
     0
 }
 
-pub fn put_malformed(text: &mut [u8], at: usize) -> usize
+pub(crate) fn put_malformed(text: &mut [u8], at: usize) -> usize
     requires { ⌜ (at ≤ length (now text)) × (64 ≤ length (now text)) ⌝ }
     ensures { λ r. ⌜ r ≤ length (now (text .entry)) ⌝ }
 {
@@ -35,7 +35,7 @@ pub fn put_malformed(text: &mut [u8], at: usize) -> usize
 }
 
 // The answer, and the lent words as runs of equal words.
-pub fn put_written(text: &mut [u8], at: usize, answer: Answer, words: &[u32]) -> usize
+pub(crate) fn put_written(text: &mut [u8], at: usize, answer: Answer, words: &[u32]) -> usize
     requires { ⌜ (at ≤ length (now text)) × (64 ≤ length (now text)) ⌝ }
     ensures { λ r. ⌜ r ≤ length (now (text .entry)) ⌝ }
 {

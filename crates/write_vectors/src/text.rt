@@ -6,7 +6,7 @@ ghost use lib.ListN.{length};
 ghost use Rattle.write_vectors.specs.Text.{glyphOf, hexOf, Placed, fieldText, runText, answerText, refusalText};
 
 // `accepted COUNT` or `refused NUMBER place PLACE`.
-pub fn put_answer(text: &mut [u8], at: usize, answer: Answer) -> usize
+pub(crate) fn put_answer(text: &mut [u8], at: usize, answer: Answer) -> usize
     requires { ⌜ at + 32 ≤ length (now text) ⌝ }
     ensures { λ r. ⌜ r ≤ at + 32 ⌝ }
     ensures { λ r. ⌜ Placed (now (text .entry)) at (answerText answer) r (now (text .exit)) ⌝ }
@@ -32,7 +32,7 @@ fn put_refusal(text: &mut [u8], at: usize, answer: Answer) -> usize
 }
 
 // `REPEAT WORD`.
-pub fn put_run(text: &mut [u8], at: usize, times: usize, word: u32) -> usize
+pub(crate) fn put_run(text: &mut [u8], at: usize, times: usize, word: u32) -> usize
     requires { ⌜ at + 18 ≤ length (now text) ⌝ }
     ensures { λ r. ⌜ r ≡ at + 18 ⌝ }
     ensures { λ r. ⌜ Placed (now (text .entry)) at (runText times word) r (now (text .exit)) ⌝ }
@@ -67,7 +67,7 @@ fn put_hex(text: &mut [u8], at: usize, number: u64) -> usize
     at + 8
 }
 
-pub fn put_bytes(text: &mut [u8], at: usize, bytes: &[u8]) -> usize
+pub(crate) fn put_bytes(text: &mut [u8], at: usize, bytes: &[u8]) -> usize
     requires { ⌜ at + length (now bytes) ≤ length (now text) ⌝ }
     ensures { λ r. ⌜ Placed (now (text .entry)) at (now (bytes .entry)) r (now (text .exit)) ⌝ }
 {

@@ -31,9 +31,9 @@ pub enum Expanded {
     Malformed,
 }
 
-// The vector at `place`, with its rows in `elements`. It is malformed where a line is, where its head asks for what there
-// is not, where there are more rows than room for them, or fewer elements than are cut.
-pub fn read_vector(input: &[u8], place: usize, elements: &mut [u32]) -> Parsed
+// The vector at `place`, with its rows in `elements`. It is malformed where a line is, where its head has an unknown
+// dialect or order or too much room, where there are more rows than room for them, or fewer elements than are cut.
+pub(crate) fn read_vector(input: &[u8], place: usize, elements: &mut [u32]) -> Parsed
     requires { ⌜ place ≤ length (now input) ⌝ }
     ensures { λ r. ⌜ (r, now (elements .exit)) ≡ vectorAt (now (input .entry)) place (now (elements .entry)) ⌝ }
     ensures { λ r. ⌜ VectorWithin (length (now (input .entry))) (length (now (elements .entry))) place r ⌝ }

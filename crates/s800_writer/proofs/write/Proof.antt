@@ -15,16 +15,16 @@ returns : tie.Need-returns
 returns c = let r = write-uneven 16 largestEvent words (eventRowsUpTo (c .before .before .before .args .order) ended) (c .before .before .before .args .rows .now) (c .before .before .before .args .words .now) (c .if1 .taken) in (r .answered, r .written)
 
 returns-2 : tie.Need-returns-2
-returns-2 c = let r = write-refused 16 largestEvent words (eventRowsUpTo (c .before .before .before .before .before .before .before .before .args .order) ended) (c .before .before .before .before .before .before .before .before .args .rows .now) (c .before .before .before .before .before .before .before .before .args .words .now) (c .before .before .before .before .before .if1 .left) (rw (c .enum-told .given .1) at (c .before .before .before .lay .ensures)) in (rw (c .enum-told .given .1) (r .answered), r .written)
+returns-2 c = let r = write-refused 16 largestEvent words (eventRowsUpTo (c .before .before .before .before .before .before .before .before .args .order) ended) (c .before .before .before .before .before .before .before .before .args .rows .now) (c .before .before .before .before .before .before .before .before .args .words .now) (c .before .before .before .before .before .if1 .left) (rw (c .enum-told .given .1) at (c .before .before .before .write-event .ensures)) in (rw (c .enum-told .given .1) (r .answered), r .written)
 
 returns-3 : tie.Need-returns-3
-returns-3 c = let r = write-large 16 largestEvent words (eventRowsUpTo (c .before .before .before .before .before .before .before .before .before .before .args .order) ended) (c .before .before .before .before .before .before .before .before .before .before .args .rows .now) (c .before .before .before .before .before .before .before .before .before .before .args .words .now) (c .before .before .before .before .before .before .before .if1 .left) (accepted-scan words (eventRowsUpTo (c .before .before .before .before .before .before .before .before .before .before .args .order) ended 0 (rowsIn (c .before .before .before .before .before .before .before .before .before .before .args .rows .now))) (rw (c .before .before .counted .given .1) at (c .before .before .before .before .before .lay .ensures))) (c .if2 .taken) in (r .answered, r .written)
+returns-3 c = let r = write-large 16 largestEvent words (eventRowsUpTo (c .before .before .before .before .before .before .before .before .before .before .args .order) ended) (c .before .before .before .before .before .before .before .before .before .before .args .rows .now) (c .before .before .before .before .before .before .before .before .before .before .args .words .now) (c .before .before .before .before .before .before .before .if1 .left) (accepted-scan words (eventRowsUpTo (c .before .before .before .before .before .before .before .before .before .before .args .order) ended 0 (rowsIn (c .before .before .before .before .before .before .before .before .before .before .args .rows .now))) (rw (c .before .before .counted .given .1) at (c .before .before .before .before .before .write-event .ensures))) (c .if2 .taken) in (r .answered, r .written)
 
 returns-4 : tie.Need-returns-4
-returns-4 c = let r = write-crowded 16 largestEvent words (eventRowsUpTo (c .before .before .before .before .before .before .before .before .before .before .before .args .order) ended) (c .before .before .before .before .before .before .before .before .before .before .before .args .rows .now) (c .before .before .before .before .before .before .before .before .before .before .before .args .words .now) (c .before .before .before .before .before .before .before .before .if1 .left) (accepted-scan words (eventRowsUpTo (c .before .before .before .before .before .before .before .before .before .before .before .args .order) ended 0 (rowsIn (c .before .before .before .before .before .before .before .before .before .before .before .args .rows .now))) (rw (c .before .before .before .counted .given .1) at (c .before .before .before .before .before .before .lay .ensures))) (c .before .if2 .left) (c .if3 .taken) in (r .answered, r .written)
+returns-4 c = let r = write-crowded 16 largestEvent words (eventRowsUpTo (c .before .before .before .before .before .before .before .before .before .before .before .args .order) ended) (c .before .before .before .before .before .before .before .before .before .before .before .args .rows .now) (c .before .before .before .before .before .before .before .before .before .before .before .args .words .now) (c .before .before .before .before .before .before .before .before .if1 .left) (accepted-scan words (eventRowsUpTo (c .before .before .before .before .before .before .before .before .before .before .before .args .order) ended 0 (rowsIn (c .before .before .before .before .before .before .before .before .before .before .before .args .rows .now))) (rw (c .before .before .before .counted .given .1) at (c .before .before .before .before .before .before .write-event .ensures))) (c .before .if2 .left) (c .if3 .taken) in (r .answered, r .written)
 
 returns-5 : tie.Need-returns-5
-returns-5 c = let r = write-fits 16 largestEvent words (eventRowsUpTo (c .before .before .before .before .before .before .before .before .before .before .before .before .before .before .before .args .order) ended) (c .before .before .before .before .before .before .before .before .before .before .before .before .before .before .before .args .rows .now) (c .before .before .before .before .before .before .before .before .before .before .before .before .before .before .before .args .words .now) (c .before .before .before .before .before .before .before .before .before .before .before .before .if1 .left) (accepted-scan words (eventRowsUpTo (c .before .before .before .before .before .before .before .before .before .before .before .before .before .before .before .args .order) ended 0 (rowsIn (c .before .before .before .before .before .before .before .before .before .before .before .before .before .before .before .args .rows .now))) (rw (c .before .before .before .before .before .before .before .counted .given .1) at (c .before .before .before .before .before .before .before .before .before .before .lay .ensures))) (c .before .before .before .before .before .if2 .left) (λ e j l q small. words-fit e (record { formed = codes-one (c .before .before .before .before .before .before .before .before .before .before .before .before .before .before .before .args .order) .sound 0 (rowsIn (c .before .before .before .before .before .before .before .before .before .before .before .before .before .before .before .args .rows .now)) e j l q .0; size = small })) (c .before .before .before .before .if3 .left) (c .before .before .lay2 .ensures) in (r .answered, r .written)
+returns-5 c = let r = write-fits 16 largestEvent words (eventRowsUpTo (c .before .before .before .before .before .before .before .before .before .before .before .before .before .before .before .args .order) ended) (c .before .before .before .before .before .before .before .before .before .before .before .before .before .before .before .args .rows .now) (c .before .before .before .before .before .before .before .before .before .before .before .before .before .before .before .args .words .now) (c .before .before .before .before .before .before .before .before .before .before .before .before .if1 .left) (accepted-scan words (eventRowsUpTo (c .before .before .before .before .before .before .before .before .before .before .before .before .before .before .before .args .order) ended 0 (rowsIn (c .before .before .before .before .before .before .before .before .before .before .before .before .before .before .before .args .rows .now))) (rw (c .before .before .before .before .before .before .before .counted .given .1) at (c .before .before .before .before .before .before .before .before .before .before .write-event .ensures))) (c .before .before .before .before .before .if2 .left) (λ e j l q small. words-fit e (record { formed = codes-one (c .before .before .before .before .before .before .before .before .before .before .before .before .before .before .before .args .order) .sound 0 (rowsIn (c .before .before .before .before .before .before .before .before .before .before .before .before .before .before .before .args .rows .now)) e j l q .0; size = small })) (c .before .before .before .before .if3 .left) (c .before .before .write-event2 .ensures) in (r .answered, r .written)
 
 pub write-spec : {M : Type 1} → statement M
 write-spec =

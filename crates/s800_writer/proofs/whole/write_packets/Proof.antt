@@ -1,4 +1,4 @@
--- `lay::write_packets` meets its contract. Assumes nothing.
+-- `whole::write_packets` meets its contract. Assumes nothing.
 use Prim.Native.Nat.{_-_}
 use native.Mathlib.Omega.{arith}
 use native.Mathlib.Nat.{min-le-right}
@@ -9,8 +9,8 @@ use Rattle.event.proofs.RowsIn.{rows-count}
 use Rattle.event.proofs.Turns.{begin}
 use Rattle.s800_writer.proofs.Runs.{Packets, packets-done, packets-stop, packets-within, packets-step}
 use borrow.Author.Needs.{needs}
-use Rattle.s800_writer.proofs.lay.write_packets.Statement.{statement}
-use Rattle.s800_writer.proofs.lay.write_packets.Tie as tie
+use Rattle.s800_writer.proofs.whole.write_packets.Statement.{statement}
+use Rattle.s800_writer.proofs.whole.write_packets.Tie as tie
 
 abbrev Inv-loop : tie.InvT-loop
 Inv-loop rows from words₀ first i₀ at₀ words i at = Packets (rowsIn rows) from first words₀ i at words

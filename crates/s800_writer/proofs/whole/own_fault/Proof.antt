@@ -1,7 +1,7 @@
--- `lay::own_fault` meets its contract. Assumes nothing.
+-- `whole::own_fault` meets its contract. Assumes nothing.
 use Rattle.s800_writer.proofs.Heads.{own-kind, own-good, own-bad}
-use Rattle.s800_writer.proofs.lay.own_fault.Statement.{statement}
-use Rattle.s800_writer.proofs.lay.own_fault.Tie as tie
+use Rattle.s800_writer.proofs.whole.own_fault.Statement.{statement}
+use Rattle.s800_writer.proofs.whole.own_fault.Tie as tie
 
 returns : tie.Need-returns
 returns c = own-good (c .before .before .before .before .before .before .args .tag) (c .before .before .before .before .before .before .args .row) (c .before .before .before .if1 .taken) (c .if2 .taken)

@@ -120,10 +120,11 @@ fn write_packets(rows: &[u32], from: usize, words: &mut [u16], first: usize) -> 
 }
 
 // Writes the event as far as the words have room for it. Without room it finds the refusal, or the number of words.
-pub(crate) fn lay(rows: &[u32], order: StampOrder, words: &mut [u16]) -> Answer
+pub(crate) fn write_event(rows: &[u32], order: StampOrder, words: &mut [u16]) -> Answer
     ensures { λ r. ⌜ ScannedBy (writingAll 16) wordsOf (eventRowsUpTo order ended 0 (rowsIn (now (rows .entry)))) 0 (now (words .entry)) r (now (words .exit)) ⌝ }
 {
-    store_word16(words, 2, 5);
+    // Words 0 to 2 are the event's length, its tag and its version, 3 to 8 the stamp packet, 9 to 13 the event number packet.
+    store_word16(words, 2, s800_format::VERSION as usize);
     let at = part_start(3, words.len());
     let stamp = write_stamp(rows, order, &mut words[at..]);
     if let Part::Refused { number, place } = stamp {

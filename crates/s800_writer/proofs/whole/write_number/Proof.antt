@@ -1,10 +1,10 @@
--- `lay::write_number` meets its contract. Assumes nothing.
+-- `whole::write_number` meets its contract. Assumes nothing.
 use mathlib.Core.Path.{refl, sym, _∙_}
 use Rattle.event.specs.Writing.{rowsIn}
 use Rattle.s800_writer.proofs.Heads.{number-own, number-refused, number-written}
 use borrow.Author.Needs.{needs}
-use Rattle.s800_writer.proofs.lay.write_number.Statement.{statement}
-use Rattle.s800_writer.proofs.lay.write_number.Tie as tie
+use Rattle.s800_writer.proofs.whole.write_number.Statement.{statement}
+use Rattle.s800_writer.proofs.whole.write_number.Tie as tie
 
 returns : tie.Need-returns
 returns c = number-own (rowsIn (c .before .before .before .before .before .before .args .rows .now)) (c .before .before .before .row-at .ensures) (c .before .before .own-fault .ensures) (c .before .if1 .taken) (c .refuse-part .ensures)

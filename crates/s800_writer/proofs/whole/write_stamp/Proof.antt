@@ -1,10 +1,10 @@
--- `lay::write_stamp` meets its contract. Assumes nothing.
+-- `whole::write_stamp` meets its contract. Assumes nothing.
 use mathlib.Core.Path.{refl, sym, _∙_}
 use Rattle.event.specs.Writing.{rowsIn}
 use Rattle.s800_writer.proofs.Heads.{stamp-own, stamp-refused, stamp-written}
 use borrow.Author.Needs.{needs}
-use Rattle.s800_writer.proofs.lay.write_stamp.Statement.{statement}
-use Rattle.s800_writer.proofs.lay.write_stamp.Tie as tie
+use Rattle.s800_writer.proofs.whole.write_stamp.Statement.{statement}
+use Rattle.s800_writer.proofs.whole.write_stamp.Tie as tie
 
 returns : tie.Need-returns
 returns c = stamp-own (c .before .before .before .before .before .before .args .order) (rowsIn (c .before .before .before .before .before .before .args .rows .now)) (c .before .before .before .row-at .ensures) (c .before .before .own-fault .ensures) (c .before .if1 .taken) (c .refuse-part .ensures)
