@@ -61,16 +61,14 @@ pub(crate) fn one_module(rows: &[u32], at: usize, seen: u32, words: &mut [u32]) 
             count: 1,
         };
     }
+    let written = values(rows, at + 1, row.unit, row.channel, words);
+    let Part::Done { next, count } = written else {
+        return written;
+    };
     store_word32(words, 0, longword(row.unit, 2, row.channel));
-    let given = values(rows, at + 1, row.unit, row.channel, words);
-    match given {
-        Part::Refused { number, place } => refuse_part(number, place),
-        Part::Done { next, count } => {
-            store_word32(words, count, longword(row.unit, 4, row.datum));
-            Part::Done {
-                next,
-                count: count + 1,
-            }
-        }
+    store_word32(words, count, longword(row.unit, 4, row.datum));
+    Part::Done {
+        next,
+        count: count + 1,
     }
 }

@@ -9,20 +9,20 @@ use borrow.Author.Needs.{needs}
 use Rattle.frs_writer.proofs.begin.scaler.Statement.{statement}
 use Rattle.frs_writer.proofs.begin.scaler.Tie as tie
 
-returns : tie.Need-returns
-returns c = block-refused _ _ (c .before .before .before .row-at .ensures) _ (c .before .before .block-fault .ensures) (c .before .if1 .taken) (c .refuse-part .ensures)
-
 scalers-requires : tie.Need-scalers-requires
-scalers-requires c κs = (block-judged _ .kept (sym (c .before .before .before .before .before .before .if1 .left) ∙ c .before .before .before .before .before .before .before .block-fault .ensures) .2, scalers-there (rowsIn (c .before .before .before .before .before .before .before .before .before .before .before .args .rows .now)) (c .before .before .before .before .before .before .before .before .before .before .before .args .words .now) (c .before .before .before .before .before .before .before .before .row-at .ensures) (sym (c .before .before .before .before .before .before .if1 .left) ∙ c .before .before .before .before .before .before .before .block-fault .ensures))
-
-add-t21 : tie.Need-add-t21
-add-t21 c = omega (arith, (rw (c .before .before .before .before .before .scaled2 .given .1) at (c .before .before .before .before .before .before .before .before .before .scalers .ensures)) .within, rows-count (c .before .before .before .before .before .before .before .before .before .before .before .before .before .before .before .before .before .before .before .before .before .args .rows .now))
+scalers-requires c κs = (block-judged _ .kept (sym (c .before .if1 .left) ∙ (c .before .before .block-fault .ensures)) .2, scalers-there (rowsIn (c .before .before .before .before .before .before .args .rows .now)) (c .before .before .before .before .before .before .args .words .now) (c .before .before .before .row-at .ensures) (sym (c .before .if1 .left) ∙ (c .before .before .block-fault .ensures)))
 
 returns-2 : tie.Need-returns-2
-returns-2 c = scalers-refused _ _ (c .before .before .before .before .before .before .before .before .before .before .before .before .before .before .before .row-at .ensures) (sym (c .before .before .before .before .before .before .before .before .before .before .before .before .before .if1 .left) ∙ c .before .before .before .before .before .before .before .before .before .before .before .before .before .before .block-fault .ensures) (c .before .before .before .before .before .before .scalers .ensures) _ (c .before .before .scaled .given .1) (c .refuse-part2 .ensures)
+returns-2 c = scalers-refused _ _ (c .before .before .before .before .before .before .before .before .row-at .ensures) (sym (c .before .before .before .before .before .before .if1 .left) ∙ (c .before .before .before .before .before .before .before .block-fault .ensures)) (c .before .before .before .before .scalers .ensures) _ (c .enum-told .given .1) (c .enum-told .given .1)
+
+add-store-word32 : tie.Need-add-store-word32
+add-store-word32 c = omega (arith, block-judged _ .kept (sym (c .before .before .before .before .before .before .before .before .before .if1 .left) ∙ (c .before .before .before .before .before .before .before .before .before .before .block-fault .ensures)))
+
+add-t17 : tie.Need-add-t17
+add-t17 c = omega (arith, (rw (c .before .before .before .before .before .before .before .before .before .before .written .given .1) at (c .before .before .before .before .before .before .before .before .before .before .before .before .before .before .scalers .ensures)) .within, rows-count (c .before .before .before .before .before .before .before .before .before .before .before .before .before .before .before .before .before .before .before .before .before .args .rows .now))
 
 returns-3 : tie.Need-returns-3
-returns-3 c = block-done _ _ (c .before .before .before .before .before .before .before .before .before .before .before .before .before .before .before .before .before .before .row-at .ensures) (sym (c .before .before .before .before .before .before .before .before .before .before .before .before .before .before .before .before .if1 .left) ∙ c .before .before .before .before .before .before .before .before .before .before .before .before .before .before .before .before .before .block-fault .ensures) (c .before .before .before .before .before .before .before .before .before .scalers .ensures) (c .before .before .before .before .before .scaled2 .given .1) (c .before .before .before .before .before .before .before .before .before .before .before .before .before .store-word32 .ensures) (c .before .before .store-word322 .ensures)
+returns-3 c = block-done _ _ (c .before .before .before .before .before .before .before .before .before .before .before .before .before .before .before .before .before .before .row-at .ensures) (sym (c .before .before .before .before .before .before .before .before .before .before .before .before .before .before .before .before .if1 .left) ∙ (c .before .before .before .before .before .before .before .before .before .before .before .before .before .before .before .before .before .block-fault .ensures)) (c .before .before .before .before .before .before .before .before .before .before .before .before .before .before .scalers .ensures) (c .before .before .before .before .before .before .before .before .before .before .written .given .1) (c .before .before .before .before .before .before .store-word32 .ensures) (c .before .before .store-word322 .ensures)
 
 pub scaler-spec : {M : Type 1} → statement M
 scaler-spec =
@@ -31,16 +31,15 @@ scaler-spec =
     (λ c κs. search needs)
     (λ c κs. search needs)
     (λ c κs. search needs)
-    returns
-    (λ c. omega (arith, block-judged _ .kept (sym (c .before .before .if1 .left) ∙ c .before .before .before .block-fault .ensures)))
-    (λ c κs. search needs)
+    (λ c. block-refused _ _ (c .before .before .before .row-at .ensures) _ (c .before .before .block-fault .ensures) (c .before .if1 .taken) (c .refuse-part .ensures))
     scalers-requires
     (λ c. search needs)
-    (λ c κs. search needs)
     (λ c. search needs)
-    (λ c κs. search needs)
-    add-t21
     (λ c. search needs)
     returns-2
+    add-store-word32
+    (λ c κs. search needs)
+    (λ c κs. search needs)
+    add-t17
     (λ c. search needs)
     returns-3)

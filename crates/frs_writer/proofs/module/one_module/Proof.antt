@@ -12,35 +12,32 @@ use Rattle.frs_writer.proofs.module.one_module.Tie as tie
 returns : tie.Need-returns
 returns c = header-refused _ _ _ _ (c .before .before .before .row-at .ensures) _ (c .before .before .header-fault .ensures) (c .before .if1 .taken) (c .refuse-part .ensures)
 
-longword-requires : tie.Need-longword-requires
-longword-requires c κs = omega (arith, empty-keeps _ _ (sym (c .before .before .before .if1 .left) ∙ c .before .before .before .before .header-fault .ensures) (c .before .if2 .taken))
-
-add-t17 : tie.Need-add-t17
-add-t17 c = omega (arith, c .before .before .before .before .before .before .before .before .before .before .before .before .pre, rows-count (c .before .before .before .before .before .before .before .before .before .before .before .before .args .rows .now))
+add-t15 : tie.Need-add-t15
+add-t15 c = omega (arith, (c .before .before .before .before .before .before .before .before .before .before .before .before .pre), rows-count (c .before .before .before .before .before .before .before .before .before .before .before .before .args .rows .now))
 
 returns-2 : tie.Need-returns-2
-returns-2 c = empty-done _ _ _ _ (c .before .before .before .before .before .before .before .before .before .row-at .ensures) (sym (c .before .before .before .before .before .before .before .if1 .left) ∙ c .before .before .before .before .before .before .before .before .header-fault .ensures) (c .before .before .before .before .before .if2 .taken) (c .before .before .before .longword .ensures) (c .before .before .store-word32 .ensures)
-
-longword-requires-2 : tie.Need-longword-requires-2
-longword-requires-2 c κs = omega (arith, data-keeps _ _ (sym (c .before .before .before .if1 .left) ∙ c .before .before .before .before .header-fault .ensures) (c .before .if2 .left))
+returns-2 c = empty-done _ _ _ _ (c .before .before .before .before .before .before .before .before .before .row-at .ensures) (sym (c .before .before .before .before .before .before .before .if1 .left) ∙ (c .before .before .before .before .before .before .before .before .header-fault .ensures)) (c .before .before .before .before .before .if2 .taken) (c .before .before .before .longword .ensures) (c .before .before .store-word32 .ensures)
 
 add-values : tie.Need-add-values
-add-values c = omega (arith, c .before .before .before .before .before .before .before .before .before .before .before .before .pre, rows-count (c .before .before .before .before .before .before .before .before .before .before .before .before .args .rows .now))
+add-values c = omega (arith, (c .before .before .before .before .before .before .before .pre), rows-count (c .before .before .before .before .before .before .before .args .rows .now))
 
 values-requires : tie.Need-values-requires
-values-requires c κs = omega (arith, data-keeps _ _ (sym (c .before .before .before .before .before .before .before .before .if1 .left) ∙ c .before .before .before .before .before .before .before .before .before .header-fault .ensures) (c .before .before .before .before .before .before .if2 .left), there (c .before .before .before .before .before .before .before .before .before .before .before .before .before .args .seen) (rowsIn (c .before .before .before .before .before .before .before .before .before .before .before .before .before .args .rows .now)) (c .before .before .before .before .before .before .before .before .before .before .before .before .before .args .at) (c .before .before .before .before .before .before .before .before .before .before .before .before .before .args .words .now) (c .before .before .before .before .before .before .before .before .before .before .row-at .ensures) (sym (c .before .before .before .before .before .before .before .before .if1 .left) ∙ c .before .before .before .before .before .before .before .before .before .header-fault .ensures))
-
-longword-requires-3 : tie.Need-longword-requires-3
-longword-requires-3 c κs = omega (arith, data-keeps _ _ (sym (c .before .before .before .before .before .before .before .before .before .before .before .before .before .before .before .if1 .left) ∙ c .before .before .before .before .before .before .before .before .before .before .before .before .before .before .before .before .header-fault .ensures) (c .before .before .before .before .before .before .before .before .before .before .before .before .before .if2 .left))
-
-add-t30 : tie.Need-add-t30
-add-t30 c = omega (arith, (rw (c .before .before .before .before .before .before .given2 .given .1) at (c .before .before .before .before .before .before .before .before .before .before .values .ensures)) .within, rows-count (c .before .before .before .before .before .before .before .before .before .before .before .before .before .before .before .before .before .before .before .before .before .before .before .before .args .rows .now), c .before .before .before .before .before .before .before .before .before .before .before .before .before .before .before .before .before .before .before .before .before .before .before .before .good .0)
+values-requires c κs = omega (arith, data-keeps _ _ (sym (c .before .before .before .if1 .left) ∙ (c .before .before .before .before .header-fault .ensures)) (c .before .if2 .left), there (c .before .before .before .before .before .before .before .before .args .seen) (rowsIn (c .before .before .before .before .before .before .before .before .args .rows .now)) (c .before .before .before .before .before .before .before .before .args .at) (c .before .before .before .before .before .before .before .before .args .words .now) (c .before .before .before .before .before .row-at .ensures) (sym (c .before .before .before .if1 .left) ∙ (c .before .before .before .before .header-fault .ensures)))
 
 returns-3 : tie.Need-returns-3
-returns-3 c = values-refused _ _ _ _ (c .before .before .before .before .before .before .before .before .before .before .before .before .before .before .before .before .before .row-at .ensures) (sym (c .before .before .before .before .before .before .before .before .before .before .before .before .before .before .before .if1 .left) ∙ c .before .before .before .before .before .before .before .before .before .before .before .before .before .before .before .before .header-fault .ensures) (c .before .before .before .before .before .before .before .before .before .before .before .before .before .if2 .left) (c .before .before .before .before .before .before .values .ensures) _ (c .before .before .given .given .1) (c .refuse-part2 .ensures)
+returns-3 c = values-refused _ _ _ _ (c .before .before .before .before .before .before .before .before .before .before .row-at .ensures) (sym (c .before .before .before .before .before .before .before .before .if1 .left) ∙ (c .before .before .before .before .before .before .before .before .before .header-fault .ensures)) (c .before .before .before .before .before .before .if2 .left) (c .before .before .before .before .values .ensures) _ (c .enum-told .given .1) (c .enum-told .given .1)
+
+longword-requires-2 : tie.Need-longword-requires-2
+longword-requires-2 c κs = omega (arith, data-keeps _ _ (sym (c .before .before .before .before .before .before .before .before .before .before .if1 .left) ∙ (c .before .before .before .before .before .before .before .before .before .before .before .header-fault .ensures)) (c .before .before .before .before .before .before .before .before .if2 .left))
+
+longword-requires-3 : tie.Need-longword-requires-3
+longword-requires-3 c κs = omega (arith, data-keeps _ _ (sym (c .before .before .before .before .before .before .before .before .before .before .before .before .before .before .before .if1 .left) ∙ (c .before .before .before .before .before .before .before .before .before .before .before .before .before .before .before .before .header-fault .ensures)) (c .before .before .before .before .before .before .before .before .before .before .before .before .before .if2 .left))
+
+add-t16 : tie.Need-add-t16
+add-t16 c = omega (arith, (rw (c .before .before .before .before .before .before .before .before .before .before .before .written .given .1) at (c .before .before .before .before .before .before .before .before .before .before .before .before .before .before .before .values .ensures)) .within, rows-count (c .before .before .before .before .before .before .before .before .before .before .before .before .before .before .before .before .before .before .before .before .before .before .before .before .args .rows .now), (c .before .before .before .before .before .before .before .before .before .before .before .before .before .before .before .before .before .before .before .before .before .before .before .before .good .0))
 
 returns-4 : tie.Need-returns-4
-returns-4 c = data-done _ _ _ _ (c .before .before .before .before .before .before .before .before .before .before .before .before .before .before .before .before .before .before .before .before .before .row-at .ensures) (sym (c .before .before .before .before .before .before .before .before .before .before .before .before .before .before .before .before .before .before .before .if1 .left) ∙ c .before .before .before .before .before .before .before .before .before .before .before .before .before .before .before .before .before .before .before .before .header-fault .ensures) (c .before .before .before .before .before .before .before .before .before .before .before .before .before .before .before .before .before .if2 .left) (c .before .before .before .before .before .before .before .before .before .before .values .ensures) (c .before .before .before .before .before .before .given2 .given .1) (c .before .before .before .before .before .before .before .before .before .before .before .before .before .before .before .longword2 .ensures) (c .before .before .before .before .before .before .before .before .before .before .before .before .before .before .store-word322 .ensures) (c .before .before .before .longword3 .ensures) (c .before .before .store-word323 .ensures)
+returns-4 c = data-done _ _ _ _ (c .before .before .before .before .before .before .before .before .before .before .before .before .before .before .before .before .before .before .before .before .before .row-at .ensures) (sym (c .before .before .before .before .before .before .before .before .before .before .before .before .before .before .before .before .before .before .before .if1 .left) ∙ (c .before .before .before .before .before .before .before .before .before .before .before .before .before .before .before .before .before .before .before .before .header-fault .ensures)) (c .before .before .before .before .before .before .before .before .before .before .before .before .before .before .before .before .before .if2 .left) (c .before .before .before .before .before .before .before .before .before .before .before .before .before .before .before .values .ensures) (c .before .before .before .before .before .before .before .before .before .before .before .written .given .1) (c .before .before .before .before .before .before .before .before .longword2 .ensures) (c .before .before .before .before .before .before .before .store-word322 .ensures) (c .before .before .before .longword3 .ensures) (c .before .before .store-word323 .ensures)
 
 pub one-module-spec : {M : Type 1} → statement M
 one-module-spec =
@@ -50,22 +47,21 @@ one-module-spec =
     (λ c κs. search needs)
     (λ c κs. search needs)
     returns
-    longword-requires
+    (λ c κs. omega (arith, empty-keeps _ _ (sym (c .before .before .before .if1 .left) ∙ (c .before .before .before .before .header-fault .ensures)) (c .before .if2 .taken)))
     (λ c κs. search needs)
-    add-t17
+    add-t15
     (λ c. search needs)
     returns-2
-    longword-requires-2
-    (λ c κs. search needs)
     add-values
     values-requires
     (λ c. search needs)
-    (λ c κs. search needs)
     (λ c. search needs)
-    longword-requires-3
-    (λ c κs. search needs)
-    add-t30
     (λ c. search needs)
     returns-3
+    longword-requires-2
+    (λ c κs. search needs)
+    longword-requires-3
+    (λ c κs. search needs)
+    add-t16
     (λ c. search needs)
     returns-4)
