@@ -55,13 +55,13 @@ module _ (set : ℕ) (rs : List Row) (i : ℕ) (b : List ℕ) {r : Row} (e : r �
       abbrev values : Result Row (List Value)
       values = times (value (r .unit)) channels (r .channel) [] (i + 1) (drop (i + 1) rs)
 
-      module _ {b₁ : List ℕ} {given : Part} (v : Writes 32 (each (valueWords (r .unit))) values rs 1 b given b₁) where
-        pub values-refused : {m p : ℕ} {part : Part} (after : List ℕ) → given ≡ Refused m p → part ≡ Refused m p → WritesModule set rs i b part after
+      module _ {b₁ : List ℕ} {written : Part} (v : Writes 32 (each (valueWords (r .unit))) values rs 1 b written b₁) where
+        pub values-refused : {m p : ℕ} {part : Part} (after : List ℕ) → written ≡ Refused m p → part ≡ Refused m p → WritesModule set rs i b part after
         values-refused after q z = record {
           writes = λ seen s. writes-refused 32 moduleWords (rw (taken s, ne-eqb 20 (r .kind) (λ k. not (sym k)), unwritten 32 (each (valueWords (r .unit))) values ((rw q at v) .scanned))) z;
         }
 
-        module _ {j k : ℕ} (q : given ≡ Done j k) where
+        module _ {j k : ℕ} (q : written ≡ Done j k) where
           these : Wrote 32 (each (valueWords (r .unit))) values 1 b j k b₁
           these = wrote 32 (each (valueWords (r .unit))) values ((rw q at v) .scanned)
 

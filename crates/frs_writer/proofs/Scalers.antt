@@ -83,11 +83,11 @@ module _ (rs : List Row) (b : List ℕ) {r : Row} (e : r ≡ getD rs 1 noRow) wh
     block-is : scaler 1 (drop 1 rs) ≡ values
     block-is = rw (block-taken .1)
 
-    module _ {b₁ : List ℕ} {given : Part} (s : Writes 32 (each wordAlone) values rs 1 b given b₁) where
-      pub scalers-refused : {m p : ℕ} {part : Part} (after : List ℕ) → given ≡ Refused m p → part ≡ Refused m p → BlockWritten part after
+    module _ {b₁ : List ℕ} {written : Part} (s : Writes 32 (each wordAlone) values rs 1 b written b₁) where
+      pub scalers-refused : {m p : ℕ} {part : Part} (after : List ℕ) → written ≡ Refused m p → part ≡ Refused m p → BlockWritten part after
       scalers-refused after q z = writes-refused 32 scalerWords (block-is ∙ unwritten 32 (each wordAlone) values ((rw q at s) .scanned)) z
 
-      module _ {j k : ℕ} (q : given ≡ Done j k) where
+      module _ {j k : ℕ} (q : written ≡ Done j k) where
         these : Wrote 32 (each wordAlone) values 1 b j k b₁
         these = wrote 32 (each wordAlone) values ((rw q at s) .scanned)
 

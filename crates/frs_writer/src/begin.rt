@@ -35,7 +35,7 @@ fn store_stamp(words: &mut [u32], row: Row)
 }
 
 // The n scalers from row 2 on, as longwords after the header.
-fn scalers(rows: &[u32], n: u32, words: &mut [u32]) -> Part
+fn write_scalers(rows: &[u32], n: u32, words: &mut [u32]) -> Part
     requires { ⌜ (n ≤ 32) × (2 ≤ length (rowsIn (now rows))) ⌝ }
     ensures { λ r. ⌜ Writes 32 (each wordAlone) (times scalerAt nextIndex n 0 2 (drop 2 (rowsIn (now (rows .entry))))) (rowsIn (now (rows .entry))) 1 (now (words .entry)) r (now (words .exit)) ⌝ }
 {
@@ -57,7 +57,7 @@ fn scalers(rows: &[u32], n: u32, words: &mut [u32]) -> Part
 }
 
 // The scaler, at the front of the words.
-fn scaler(rows: &[u32], words: &mut [u32]) -> Part
+fn write_scaler(rows: &[u32], words: &mut [u32]) -> Part
     requires { ⌜ 1 ≤ length (rowsIn (now rows)) ⌝ }
     ensures { λ r. ⌜ Writes 32 scalerWords (scaler 1 (drop 1 (rowsIn (now (rows .entry))))) (rowsIn (now (rows .entry))) 0 (now (words .entry)) r (now (words .exit)) ⌝ }
 {
@@ -66,7 +66,7 @@ fn scaler(rows: &[u32], words: &mut [u32]) -> Part
     if number != 0 {
         return refuse_part(number, 1);
     }
-    let written = scalers(rows, row.channel, words);
+    let written = write_scalers(rows, row.channel, words);
     let Part::Done { next, count } = written else {
         return written;
     };
@@ -94,7 +94,7 @@ fn store_pattern(words: &mut [u32], row: Row)
 }
 
 // The pattern unit, where the row after the scalers is one, at the front of the words.
-fn pattern_unit(rows: &[u32], at: usize, words: &mut [u32]) -> Part
+fn write_pattern_unit(rows: &[u32], at: usize, words: &mut [u32]) -> Part
     requires { ⌜ at ≤ length (rowsIn (now rows)) ⌝ }
     ensures { λ r. ⌜ Writes 32 (ifAny patternWords) (optionally atPattern patternUnit at (drop at (rowsIn (now (rows .entry))))) (rowsIn (now (rows .entry))) 0 (now (words .entry)) r (now (words .exit)) ⌝ }
 {
@@ -124,13 +124,13 @@ pub(crate) fn begin(rows: &[u32], words: &mut [u32]) -> Part
     }
     store_stamp(words, row);
     let start = part_start(4, words.len());
-    let written = scaler(rows, &mut words[start..]);
+    let written = write_scaler(rows, &mut words[start..]);
     let Part::Done { next, count } = written else {
         return written;
     };
     let at = 4 + count;
     let start = part_start(at, words.len());
-    let written = pattern_unit(rows, next, &mut words[start..]);
+    let written = write_pattern_unit(rows, next, &mut words[start..]);
     let Part::Done { next, count } = written else {
         return written;
     };
