@@ -1,11 +1,12 @@
 -- The parts before the modules together, and from them to the event. Over plain values.
 -- Assumes nothing.
-use Prim.Native.Nat.{ℕ, _+_, _*_, _≤_, _<_}
+use Prim.Native.Nat.{ℕ, _+_, _-_, _*_, _≤_, _<_, min}
 use native.Mathlib.Omega.{arith}
 use mathlib.Core.Path.{_≡_, refl, ap, sym, _∙_}
-use mathlib.Core.List.{List, [], _++_, append-assoc}
-use mathlib.Core.Option.{Option}
-use lib.ListN.{length, getD, drop, length-append}
+use mathlib.Core.List.{List, [], _∷_, _++_, append-assoc}
+use mathlib.Core.Option.{Option, some, none}
+use lib.ListN.{length, getD, take, drop, length-append}
+use borrow.Rule.Slice.PartMut.{putMid}
 use Rattle.event.specs.declared.Answer.{Answer}
 use Rattle.event.specs.declared.Answer.the-variants as answer
 use Rattle.event.specs.declared.Part.{Part}
@@ -20,18 +21,25 @@ use Rattle.event.proofs.Leads.{leads-part, store-append, scanned-refuse}
 use Rattle.event.proofs.RowJudged.{row-taken, row-refused}
 use Rattle.event.proofs.Sequences.{codes-optionally}
 use Rattle.event.proofs.Ends.{placed}
+use Rattle.event.proofs.WordStores.{part-written}
 use Rattle.event.proofs.WritingTurns.{Wrote, wrote, unwritten, all-refused, all-done}
-use Rattle.frs_layout.specs.Event.{Stamp, PatternUnit, Event}
-use Rattle.frs_layout.specs.Layout.{stampWords, scalerWords, patternWords, moduleWords, words, stampRow, stampChecks, geos, largestEvent}
+use Rattle.frs_layout.specs.Event.{Stamp, PatternUnit, Event, scalerEnd}
+use Rattle.frs_layout.specs.Layout.{stampWords, scalerWords, patternWords, moduleWords, words, stampRow, patternRows, stampChecks, geos, largestEvent}
 use Rattle.frs_layout.specs.Writing.{stampOf, stamp, scaler, patternUnit, atPattern, oneModule, eventRowsUpTo}
 use Rattle.frs_layout.proofs.Rows.{codes-scaler, codes-pattern, codes-one}
 use Rattle.frs_layout.proofs.Width.{words-fit}
 use Rattle.frs_writer.specs.Faults.{stampFault}
 use Rattle.frs_writer.specs.Parts.{Begins}
+use Rattle.frs_writer.proofs.Scalers.{rows-of}
 
 -- the longwords before the modules
 abbrev first : Stamp → List ℕ → Option PatternUnit → List ℕ
 first s vs o = stampWords s ++ (scalerWords vs ++ ifAny patternWords o)
+
+-- at most four longwords for a row
+few-words : (o : Option PatternUnit) → length (ifAny patternWords o) ≤ 4 * length (ifAny patternRows o)
+few-words none = omega arith
+few-words (some p) = omega arith
 
 leads-event : (rs : List Row) {before b : List ℕ} {at at′ k : ℕ} (s : Stamp) (vs : List ℕ) (o : Option PatternUnit) → stamp 0 rs ≡ ok s 1 (drop 1 rs) → scaler 1 (drop 1 rs) ≡ ok vs at (drop at rs)
     → optionally atPattern patternUnit at (drop at rs) ≡ ok o at′ (drop at′ rs) → k ≡ 0 + length (first s vs o) → b ≡ storeWords 32 before 0 (first s vs o)
@@ -53,54 +61,64 @@ module _ (rs : List Row) (before : List ℕ) {r : Row} (e : r ≡ getD rs 0 noRo
     pub block-there : 1 ≤ length rs
     block-there = stamped .0
 
-    module _ {b₁ b₂ : List ℕ} {x : Part} (c : Writes 32 scalerWords (scaler 1 (drop 1 rs)) rs 4 b₁ x b₂) where
-      pub scaler-refused : {m p : ℕ} {part : Part} {after : List ℕ} → x ≡ Refused m p → part ≡ Refused m p → Begins rs before after part
-      scaler-refused q z = rw z (record { begun = rw (stamped .1, unwritten 32 scalerWords (scaler 1 (drop 1 rs)) ((rw q at c) .scanned)) })
+    abbrev ScalerIn : List ℕ → Part → List ℕ → Type 0
+    ScalerIn = Writes 32 scalerWords (scaler 1 (drop 1 rs)) rs 0
 
-      module _ {at k : ℕ} (q : x ≡ Done at k) (b₃ : List ℕ) (stored : b₁ ≡ storeWords 32 before 0 (stampWords (stampOf r))) where
-        abbrev Pattern : Part → Type 0
-        Pattern y = Writes 32 (ifAny patternWords) (optionally atPattern patternUnit at (drop at rs)) rs k b₂ y b₃
+    pub scaler-refused : {part part′ after : List ℕ} {x : Part} {m p : ℕ} → ScalerIn part x part′ → x ≡ Refused m p → Begins rs before after x
+    scaler-refused w q = rw q (record { begun = rw (stamped .1, unwritten 32 scalerWords (scaler 1 (drop 1 rs)) ((rw q at w) .scanned)) })
 
-        scaled : Wrote 32 scalerWords (scaler 1 (drop 1 rs)) 4 b₁ at k b₂
-        scaled = wrote 32 scalerWords (scaler 1 (drop 1 rs)) ((rw q at c) .scanned)
+    -- the stamp and the scaler are written, as k longwords
+    pub record Scaled (b : List ℕ) (at k : ℕ) : Type 0 where
+      pub values : List ℕ
+      pub parsed : scaler 1 (drop 1 rs) ≡ ok values at (drop at rs)
+      pub inside : at ≤ length rs
+      pub few : k + 2 ≤ 4 * at
+      pub counted : k ≡ 4 + length (scalerWords values)
+      pub stored : b ≡ storeWords 32 before 0 (stampWords (stampOf r) ++ scalerWords values)
 
-        scaled-to : (at ≤ length rs) × (scaler 1 (drop 1 rs) ≡ ok (scaled .value) at (drop at rs))
-        scaled-to =
-            let l = placed codes-scaler rs 1 (omega (arith, stamped .0)) (scaled .parsed) in
-            (l .2, scaled .parsed ∙ ap (ok (scaled .value) at) (l .0))
+    pub scaler-done : {b₁ b₂ part part′ : List ℕ} {start at n : ℕ} {x : Part} → b₁ ≡ storeWords 32 before 0 (stampWords (stampOf r)) → start ≡ min 4 (length b₁) → part ≡ take (length b₁ - start) (drop start b₁)
+        → ScalerIn part x part′ → x ≡ Done at n → b₂ ≡ putMid start (length b₁ - start) b₁ part′ → Scaled b₂ at (4 + n)
+    scaler-done {b₁} {b₂} {part} {part′} {start} {at} {n} stored s lent w q back = go (wrote 32 scalerWords (scaler 1 (drop 1 rs)) ((rw q at w) .scanned))
+      where
+        go : Wrote 32 scalerWords (scaler 1 (drop 1 rs)) 0 part at n part′ → Scaled b₂ at (4 + n)
+        go v =
+            let vs = v .value in
+            let l = placed codes-scaler rs 1 (omega (arith, stamped .0)) (v .parsed) in
+            record {
+              values = vs;
+              parsed = v .parsed ∙ ap (ok vs at) (l .0);
+              inside = l .2;
+              few = omega (arith, l .1, rows-of 0 vs, v .counted, length-append vs (scalerEnd ∷ []));
+              counted = omega (arith, v .counted);
+              stored = part-written 32 (scalerWords vs) b₁ 4 s lent (v .stored) back ∙ rw stored;
+            }
 
-        pattern-refused : {m p : ℕ} → Pattern (Refused m p) → Begins rs before b₃ (Refused m p)
-        pattern-refused d = record { begun = rw (stamped .1, scaled-to .1, unwritten 32 (ifAny patternWords) (optionally atPattern patternUnit at (drop at rs)) (d .scanned)) }
+    -- and the pattern unit, if any
+    module _ {b₂ : List ℕ} {at k : ℕ} (t : Scaled b₂ at k) {part part′ : List ℕ} {x : Part} (w : Writes 32 (ifAny patternWords) (optionally atPattern patternUnit at (drop at rs)) rs 0 part x part′) where
+      pub pattern-refused : {after : List ℕ} {m p : ℕ} → x ≡ Refused m p → Begins rs before after x
+      pattern-refused q = rw q (record { begun = rw (stamped .1, t .parsed, unwritten 32 (ifAny patternWords) (optionally atPattern patternUnit at (drop at rs)) ((rw q at w) .scanned)) })
 
-        module _ {at′ k′ : ℕ} (d : Pattern (Done at′ k′)) where
-          unit : Wrote 32 (ifAny patternWords) (optionally atPattern patternUnit at (drop at rs)) k b₂ at′ k′ b₃
-          unit = wrote 32 (ifAny patternWords) (optionally atPattern patternUnit at (drop at rs)) (d .scanned)
-
-          unit-to : optionally atPattern patternUnit at (drop at rs) ≡ ok (unit .value) at′ (drop at′ rs)
-          unit-to =
-              let l = placed (codes-optionally atPattern codes-pattern (λ p g r. refl)) rs at (scaled-to .0) (unit .parsed) in
-              unit .parsed ∙ ap (ok (unit .value) at′) (l .0)
-
-          laid : (k′ ≡ 0 + length (first (stampOf r) (scaled .value) (unit .value))) × (b₃ ≡ storeWords 32 before 0 (first (stampOf r) (scaled .value) (unit .value)))
-          laid =
-              let v = scaled in
-              let o = unit in
-              let ss = scalerWords (v .value) in
-              let ps = ifAny patternWords (o .value) in (
-                omega (arith, v .counted, o .counted, length-append ss ps),
-                o .stored ∙ ap (λ (l : List ℕ). storeWords 32 l k ps) (v .stored) ∙ ap (λ (m : ℕ). storeWords 32 (storeWords 32 b₁ 4 ss) m ps) (v .counted)
-                    ∙ sym (store-append (storeWord 32) b₁ 4 ss ps) ∙ ap (λ (l : List ℕ). storeWords 32 l 4 (ss ++ ps)) stored,
-              )
-
-          modules-next : Begins rs before b₃ (Done at′ k′)
-          modules-next = record { begun = (d .within .0, d .within .1, leads-event rs (stampOf r) (scaled .value) (unit .value) (stamped .1) (scaled-to .1) unit-to (laid .0) (laid .1)) }
-
-        pub begins : {part : Part} → Pattern part → Begins rs before b₃ part
-        begins {part} d = go part d
-          where
-            go : (y : Part) → Pattern y → Begins rs before b₃ y
-            go (Refused m p) d = pattern-refused d
-            go (Done at′ k′) d = modules-next d
+      pub begins : {b₃ : List ℕ} {start at′ n : ℕ} → start ≡ min k (length b₂) → part ≡ take (length b₂ - start) (drop start b₂) → x ≡ Done at′ n → b₃ ≡ putMid start (length b₂ - start) b₂ part′
+          → Begins rs before b₃ (Done at′ (k + n))
+      begins {b₃} {start} {at′} {n} s lent q back = go (wrote 32 (ifAny patternWords) (optionally atPattern patternUnit at (drop at rs)) ((rw q at w) .scanned))
+        where
+          go : Wrote 32 (ifAny patternWords) (optionally atPattern patternUnit at (drop at rs)) 0 part at′ n part′ → Begins rs before b₃ (Done at′ (k + n))
+          go v =
+              let o = v .value in
+              let ss = scalerWords (t .values) in
+              let ps = ifAny patternWords o in
+              let l = placed (codes-optionally atPattern codes-pattern (λ p g r. refl)) rs at (t .inside) (v .parsed) in
+              let laid : k ≡ 0 + length (stampWords (stampOf r) ++ ss) = omega (arith, t .counted) in
+              let stored : b₃ ≡ storeWords 32 before 0 (first (stampOf r) (t .values) o) =
+              part-written 32 ps b₂ k s lent (v .stored) back ∙ ap (λ (l : List ℕ). storeWords 32 l k ps) (t .stored) ∙ ap (λ (m : ℕ). storeWords 32 (storeWords 32 before 0 (stampWords (stampOf r) ++ ss)) m ps) laid
+              ∙ sym (store-append (storeWord 32) before 0 (stampWords (stampOf r) ++ ss) ps) in
+              record {
+                begun = (
+                  l .2,
+                  omega (arith, t .few, few-words o, v .counted, l .1),
+                  leads-event rs (stampOf r) (t .values) o (stamped .1) (t .parsed) (v .parsed ∙ ap (ok o at′) (l .0)) (omega (arith, t .counted, v .counted, length-append ss ps)) stored,
+                );
+              }
 
 -- from the parts before the modules to the event
 module _ {rs : List Row} {before b : List ℕ} {part : Part} (s : Begins rs before b part) where

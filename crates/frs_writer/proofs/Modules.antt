@@ -51,11 +51,11 @@ module _ {rs : List Row} {set first laid i k : ℕ} {b₀ b : List ℕ} (h : Mod
   pub modules-done : length rs ≤ i → Written (Done i k) b
   modules-done = parts-done 32 h
 
-  module _ (below : i < length rs) {start : ℕ} (s : start ≡ min k (length b)) {part : List ℕ} {given : Part} (w : WritesModule set rs i (take (length b - start) (drop start b)) given part) where
-    pub module-refused : {n p : ℕ} {r : Part} (after : List ℕ) → given ≡ Refused n p → r ≡ Refused n p → Written r after
+  module _ (below : i < length rs) {start : ℕ} (s : start ≡ min k (length b)) {part : List ℕ} {written : Part} (w : WritesModule set rs i (take (length b - start) (drop start b)) written part) where
+    pub module-refused : {n p : ℕ} {r : Part} (after : List ℕ) → written ≡ Refused n p → r ≡ Refused n p → Written r after
     module-refused after q z = rw z (part-refused 32 codes-module (λ m l. tt) tt go-on few-words h below s refl (w .writes (h .state) (h .holds)) after q)
 
-    module _ {j n : ℕ} (q : given ≡ Done j n) where
+    module _ {j n : ℕ} (q : written ≡ Done j n) where
       pub module-within : (j ≤ length rs) × (i < j) × (k + n ≤ 4 * j)
       module-within = part-within 32 codes-module (λ m l. tt) tt go-on few-words h below s refl (w .writes (h .state) (h .holds)) q
 

@@ -55,14 +55,14 @@ module _ (set : ℕ) (rs : List Row) (i : ℕ) (b : List ℕ) {r : Row} (e : r �
       abbrev values : Result Row (List Value)
       values = times (value (r .unit)) channels (r .channel) [] (i + 1) (drop (i + 1) rs)
 
-      module _ {b₁ b₂ : List ℕ} {given : Part} (v : Writes 32 (each (valueWords (r .unit))) values rs 1 b₁ given b₂) where
-        pub values-refused : {m p : ℕ} {part : Part} (after : List ℕ) → given ≡ Refused m p → part ≡ Refused m p → WritesModule set rs i b part after
+      module _ {b₁ : List ℕ} {written : Part} (v : Writes 32 (each (valueWords (r .unit))) values rs 1 b written b₁) where
+        pub values-refused : {m p : ℕ} {part : Part} (after : List ℕ) → written ≡ Refused m p → part ≡ Refused m p → WritesModule set rs i b part after
         values-refused after q z = record {
           writes = λ seen s. writes-refused 32 moduleWords (rw (taken s, ne-eqb 20 (r .kind) (λ k. not (sym k)), unwritten 32 (each (valueWords (r .unit))) values ((rw q at v) .scanned))) z;
         }
 
-        module _ {j k : ℕ} (q : given ≡ Done j k) where
-          these : Wrote 32 (each (valueWords (r .unit))) values 1 b₁ j k b₂
+        module _ {j k : ℕ} (q : written ≡ Done j k) where
+          these : Wrote 32 (each (valueWords (r .unit))) values 1 b j k b₁
           these = wrote 32 (each (valueWords (r .unit))) values ((rw q at v) .scanned)
 
           parsed : {seen : List ℕ} → Blocked 0 set seen → oneModule seen i (drop i rs) ≡ ok (withData (r .unit) (these .value) (r .datum)) j (these .input)
@@ -79,9 +79,9 @@ module _ (set : ℕ) (rs : List Row) (i : ℕ) (b : List ℕ) {r : Row} (e : r �
               let x : moduleRow (r .unit) (length (these .value)) (r .datum) ≡ r = cc (w, rows-from rs i there, e) in
               (ap (λ (y : Row). y .channel) x, omega (arith, u .1, length-map (these .value) (valueRow (r .unit))), u .2)
 
-          pub data-done : {h t : ℕ} {b₃ : List ℕ} → h ≡ headerWord (r .unit) (r .channel) → b₁ ≡ storeWord 32 b 0 h → t ≡ footerWord (r .unit) (r .datum) → b₃ ≡ storeWord 32 b₂ k t
+          pub data-done : {h t : ℕ} {b₂ b₃ : List ℕ} → h ≡ headerWord (r .unit) (r .channel) → b₂ ≡ storeWord 32 b₁ 0 h → t ≡ footerWord (r .unit) (r .datum) → b₃ ≡ storeWord 32 b₂ k t
               → WritesModule set rs i b (Done j (k + 1)) b₃
-          data-done {b₃ = b₃} hd first-stored tl last-stored = record { writes = λ seen s. go s }
+          data-done {b₂ = b₂} {b₃} hd first-stored tl last-stored = record { writes = λ seen s. go s }
             where
               go : {seen : List ℕ} → Blocked 0 set seen → Writes 32 moduleWords (oneModule seen i (drop i rs)) rs 0 b (Done j (k + 1)) b₃
               go s =
@@ -90,7 +90,7 @@ module _ (set : ℕ) (rs : List Row) (i : ℕ) (b : List ℕ) {r : Row} (e : r �
                   let n = length-map vs (valueWord (r .unit)) in
                   let c = counted in
                   writes-done 32 moduleWords (parsed s) refl (omega (arith, length-append ws (footerWord (r .unit) (r .datum) ∷ [])))
-                  (block-stored b 0 (headerWord (r .unit) (length vs)) ws (footerWord (r .unit) (r .datum))
-                  (first-stored ∙ ap (storeWord 32 b 0) (hd ∙ ap (headerWord (r .unit)) (sym (size s .0))))
-                  (these .stored ∙ ap (storeWords 32 b₁ 1) (each-map (valueWord (r .unit)) vs)) (omega arith) (last-stored ∙ ap (storeWord 32 b₂ k) tl))
+                  (block-stored b (headerWord (r .unit) (length vs)) ws (footerWord (r .unit) (r .datum))
+                  (these .stored ∙ ap (storeWords 32 b 1) (each-map (valueWord (r .unit)) vs))
+                  (first-stored ∙ ap (storeWord 32 b₁ 0) (hd ∙ ap (headerWord (r .unit)) (sym (size s .0)))) (omega arith) (last-stored ∙ ap (storeWord 32 b₂ k) tl))
                   (size s .2) (omega (arith, size s .1))

@@ -1,6 +1,6 @@
 -- The pattern unit, where the row after the scalers is one. Over plain values.
 -- Assumes nothing.
-use Prim.Native.Nat.{ℕ, zero, suc, _+_, _*_, _≤_, _<_}
+use Prim.Native.Nat.{ℕ, zero, suc, _+_, _≤_}
 use native.Mathlib.Omega.{arith}
 use mathlib.Core.Path.{_≡_, refl, sym, ap, _∙_}
 use mathlib.Core.List.{List, [], _∷_}
@@ -25,27 +25,23 @@ next-row [] (suc i) = refl
 next-row (r ∷ rs) zero = refl
 next-row (r ∷ rs) (suc i) = next-row rs i
 
-module _ (rs : List Row) (i k : ℕ) (b : List ℕ) {r : Row} (e : r ≡ getD rs i noRow) where
+module _ (rs : List Row) (i : ℕ) (b : List ℕ) {r : Row} (e : r ≡ getD rs i noRow) where
   looks : atPattern (drop i rs) ≡ ofKind 19 r
   looks = next-row rs i ∙ ap (ofKind 19) (sym e)
 
   abbrev Written : Part → List ℕ → Type 0
-  Written = Writes 32 (ifAny patternWords) (optionally atPattern patternUnit i (drop i rs)) rs k b
+  Written = Writes 32 (ifAny patternWords) (optionally atPattern patternUnit i (drop i rs)) rs 0 b
 
-  pub no-pattern : (r .kind ≡ 19 → ⊥) → i ≤ length rs → k ≤ 4 * i → Written (Done i k) b
-  no-pattern n l m = writes-done 32 (ifAny patternWords) {a = none} {l = drop i rs} (rw (looks, ne-eqb 19 (r .kind) (λ q. n (sym q)))) refl (omega arith) refl l m
-
-  pub pattern-there : 0 ≡ patternFault r → i < length rs
-  unfolding patternFault
-  pattern-there f = row-taken (ofKind 19) patternOf patternRow (patternChecks 22) refl (λ p. (tt, (tt, tt))) rs i e f .0
+  pub no-pattern : (r .kind ≡ 19 → ⊥) → i ≤ length rs → Written (Done i 0) b
+  no-pattern n l = writes-done 32 (ifAny patternWords) {a = none} {l = drop i rs} (rw (looks, ne-eqb 19 (r .kind) (λ q. n (sym q)))) refl refl refl l (omega arith)
 
   module _ (is : r .kind ≡ 19) where
     pub pattern-refused : {m : ℕ} {part : Part} (after : List ℕ) → m ≡ patternFault r → (m ≡ 0 → ⊥) → part ≡ Refused m i → Written part after
     unfolding patternFault
     pattern-refused after f z q = writes-refused 32 (ifAny patternWords) (rw (looks, eq-eqb 19 (r .kind) (sym is), row-refused (ofKind 19) patternOf patternRow (patternChecks 22) refl (λ p. (tt, (tt, tt))) rs i e f z)) q
 
-    pub pattern-done : {after : List ℕ} → 0 ≡ patternFault r → k ≤ 4 * i → after ≡ storeWords 32 b k (patternWords (patternOf r)) → Written (Done (i + 1) (k + 4)) after
+    pub pattern-done : {after : List ℕ} → 0 ≡ patternFault r → after ≡ storeWords 32 b 0 (patternWords (patternOf r)) → Written (Done (i + 1) 4) after
     unfolding patternFault
-    pattern-done f m s =
+    pattern-done f s =
         let t = row-taken (ofKind 19) patternOf patternRow (patternChecks 22) refl (λ p. (tt, (tt, tt))) rs i e f in
         writes-done 32 (ifAny patternWords) {a = some (patternOf r)} {l = drop (i + 1) rs} (rw (looks, eq-eqb 19 (r .kind) (sym is), t .1)) refl refl s (omega arith) (omega arith)

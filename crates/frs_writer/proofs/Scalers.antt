@@ -28,11 +28,11 @@ abbrev Stored : (n index : ℕ) → ℕ × ℕ → Type 0
 Stored n index s = (s .0 + index ≡ n) × (s .1 ≡ index)
 
 abbrev pub Scalers : List Row → (n index : ℕ) → List ℕ → ℕ → ℕ → List ℕ → Type 0
-Scalers rs n index = WritesOn 32 (counted scalerAt nextIndex) wordAlone (Stored n index) rs (n, 0) 2 5
+Scalers rs n index = WritesOn 32 (counted scalerAt nextIndex) wordAlone (Stored n index) rs (n, 0) 2 1
 
 module _ {rs : List Row} {n index i k : ℕ} {b₀ b : List ℕ} (h : Scalers rs n index b₀ i k b) where
   abbrev Written : Part → List ℕ → Type 0
-  Written = Writes 32 (each wordAlone) (times scalerAt nextIndex n 0 2 (drop 2 rs)) rs 5 b₀
+  Written = Writes 32 (each wordAlone) (times scalerAt nextIndex n 0 2 (drop 2 rs)) rs 1 b₀
 
   pub scalers-done : n ≤ index → Written (Done i k) b
   scalers-done l = rows-done 32 h (no-more scalerAt nextIndex (h .state) i (drop i rs) (let s = h .holds in omega arith))
@@ -55,13 +55,13 @@ module _ {rs : List Row} {n index i k : ℕ} {b₀ b : List ℕ} (h : Scalers rs
         rows-taken 32 h (one-more scalerAt nextIndex (h .state) i (drop i rs) (n - suc index) left) (rw (h .holds .1) (t .1)) (rw left (omega arith)) (omega arith) (omega arith) refl q z
 
 -- the block around them
-rows-of : (i : ℕ) (vs : List ℕ) → length (scalerRowsFrom i vs) ≡ length vs
+pub rows-of : (i : ℕ) (vs : List ℕ) → length (scalerRowsFrom i vs) ≡ length vs
 rows-of i [] = refl
 rows-of i (v ∷ vs) = ap suc (rows-of (suc i) vs)
 
 module _ (rs : List Row) (b : List ℕ) {r : Row} (e : r ≡ getD rs 1 noRow) where
   abbrev BlockWritten : Part → List ℕ → Type 0
-  BlockWritten = Writes 32 scalerWords (scaler 1 (drop 1 rs)) rs 4 b
+  BlockWritten = Writes 32 scalerWords (scaler 1 (drop 1 rs)) rs 0 b
 
   pub block-refused : {m : ℕ} {part : Part} (after : List ℕ) → m ≡ blockFault r → (m ≡ 0 → ⊥) → part ≡ Refused m 1 → BlockWritten part after
   unfolding blockFault
@@ -83,16 +83,16 @@ module _ (rs : List Row) (b : List ℕ) {r : Row} (e : r ≡ getD rs 1 noRow) wh
     block-is : scaler 1 (drop 1 rs) ≡ values
     block-is = rw (block-taken .1)
 
-    module _ {b₁ b₂ : List ℕ} {given : Part} (s : Writes 32 (each wordAlone) values rs 5 b₁ given b₂) where
-      pub scalers-refused : {m p : ℕ} {part : Part} (after : List ℕ) → given ≡ Refused m p → part ≡ Refused m p → BlockWritten part after
+    module _ {b₁ : List ℕ} {written : Part} (s : Writes 32 (each wordAlone) values rs 1 b written b₁) where
+      pub scalers-refused : {m p : ℕ} {part : Part} (after : List ℕ) → written ≡ Refused m p → part ≡ Refused m p → BlockWritten part after
       scalers-refused after q z = writes-refused 32 scalerWords (block-is ∙ unwritten 32 (each wordAlone) values ((rw q at s) .scanned)) z
 
-      module _ {j k : ℕ} (q : given ≡ Done j k) where
-        these : Wrote 32 (each wordAlone) values 5 b₁ j k b₂
+      module _ {j k : ℕ} (q : written ≡ Done j k) where
+        these : Wrote 32 (each wordAlone) values 1 b j k b₁
         these = wrote 32 (each wordAlone) values ((rw q at s) .scanned)
 
         -- as many as the block's row says
-        size : (length (these .value) ≡ r .channel) × (j ≡ 2 + length (these .value)) × (j ≤ length rs) × (k ≡ 5 + length (these .value))
+        size : (length (these .value) ≡ r .channel) × (j ≡ 2 + length (these .value)) × (j ≤ length rs) × (k ≡ 1 + length (these .value))
         size =
             let t = these in
             let p = block-is ∙ t .parsed in
@@ -101,10 +101,10 @@ module _ (rs : List Row) (b : List ℕ) {r : Row} (e : r ≡ getD rs 1 noRow) wh
             let v : scalerBlockRow (length (t .value)) ≡ r = cc (w, rows-from rs 1 (block-taken .0), e) in
             (ap (λ (x : Row). x .channel) v, omega (arith, u .1, rows-of 0 (t .value)), u .2, t .counted ∙ rw (each-alone (t .value)))
 
-        pub block-done : {b₃ : List ℕ} → b₁ ≡ storeWord 32 b 4 (headerWord scalerGeo (r .channel)) → b₃ ≡ storeWord 32 b₂ k scalerEnd → BlockWritten (Done j (k + 1)) b₃
+        pub block-done : {b₂ b₃ : List ℕ} → b₂ ≡ storeWord 32 b₁ 0 (headerWord scalerGeo (r .channel)) → b₃ ≡ storeWord 32 b₂ k scalerEnd → BlockWritten (Done j (k + 1)) b₃
         block-done first last =
             let t = these in
             let vs = t .value in
             let same = each-alone vs in
             writes-done 32 scalerWords (block-is ∙ t .parsed) refl (omega (arith, size .3, length-append vs (scalerEnd ∷ [])))
-            (block-stored b 4 (headerWord scalerGeo (length vs)) vs scalerEnd (first ∙ ap (λ (n : ℕ). storeWord 32 b 4 (headerWord scalerGeo n)) (sym (size .0))) (t .stored ∙ ap (storeWords 32 b₁ 5) same) (size .3) last) (size .2) (omega (arith, size .1, size .3))
+            (block-stored b (headerWord scalerGeo (length vs)) vs scalerEnd (t .stored ∙ ap (storeWords 32 b 1) same) (first ∙ ap (λ (n : ℕ). storeWord 32 b₁ 0 (headerWord scalerGeo n)) (sym (size .0))) (size .3) last) (size .2) (omega (arith, size .1, size .3))

@@ -95,7 +95,7 @@ fn geo_fault(geo: u32) -> u32
     0
 }
 
-// A module's first row, but that its GEO may have been seen.
+// A module's first row, apart from whether its GEO was seen.
 fn header_field_fault(row: Row) -> u32
     ensures { λ r. ⌜ r ≡ headerFieldFault row ⌝ }
 {
@@ -143,7 +143,7 @@ pub(crate) fn header_fault(seen: u32, row: Row) -> u32
     unless_seen(header_field_fault(row), seen, row.unit)
 }
 
-// A value of the module with this GEO, but that its channel may have been seen.
+// A value of the module with this GEO, apart from whether its channel was seen.
 fn value_field_fault(geo: u32, row: Row) -> u32
     ensures { λ r. ⌜ r ≡ valueFieldFault geo row ⌝ }
 {

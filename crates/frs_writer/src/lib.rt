@@ -1,11 +1,11 @@
 // Writes one event of dialect F, the FRS VME event (document 01), from its rows.
 mod begin;
 mod fault;
-mod lay;
 mod longword;
 mod module;
+mod whole;
 
-use crate::lay::lay;
+use crate::whole::write_event;
 use event::Answer;
 use event::refusal;
 ghost use mathlib.Core.Path.{_≡_};
@@ -26,7 +26,7 @@ pub fn write(rows: &[u32], words: &mut [u32]) -> Answer
         };
     }
     let mut none: [u32; 0] = [];
-    let counted = lay(rows, &mut none);
+    let counted = write_event(rows, &mut none);
     let Answer::Accepted(count) = counted else {
         return counted;
     };
@@ -42,5 +42,5 @@ pub fn write(rows: &[u32], words: &mut [u32]) -> Answer
             place: count,
         };
     }
-    lay(rows, words)
+    write_event(rows, words)
 }

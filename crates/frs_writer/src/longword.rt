@@ -1,6 +1,6 @@
 // The longwords of an event, made of their fields.
 use event::words::store_word32;
-ghost use Prim.Native.Nat.{_+_, _<_, _^_};
+ghost use Prim.Native.Nat.{_<_, _^_};
 ghost use mathlib.Core.Path.{_≡_};
 ghost use mathlib.Core.List.{[], _∷_};
 ghost use denote.Ref.{now};
@@ -23,13 +23,12 @@ pub(crate) fn longword(geo: u32, flag: u32, low: u32) -> u32
     geo * 0x0800_0000 + flag * 0x0100_0000 + low
 }
 
-// Four longwords, each where there is room for it.
-pub(crate) fn store_four(words: &mut [u32], at: usize, a: u32, b: u32, c: u32, d: u32)
-    requires { ⌜ at + 3 < 2 ^ 64 ⌝ }
-    ensures { λ _. ⌜ now (words .exit) ≡ storeWords 32 (now (words .entry)) at (a ∷ b ∷ c ∷ d ∷ []) ⌝ }
+// Four longwords at the front, each where there is room for it.
+pub(crate) fn store_four(words: &mut [u32], a: u32, b: u32, c: u32, d: u32)
+    ensures { λ _. ⌜ now (words .exit) ≡ storeWords 32 (now (words .entry)) 0 (a ∷ b ∷ c ∷ d ∷ []) ⌝ }
 {
-    store_word32(words, at, a);
-    store_word32(words, at + 1, b);
-    store_word32(words, at + 2, c);
-    store_word32(words, at + 3, d);
+    store_word32(words, 0, a);
+    store_word32(words, 1, b);
+    store_word32(words, 2, c);
+    store_word32(words, 3, d);
 }

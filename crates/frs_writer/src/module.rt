@@ -20,7 +20,7 @@ ghost use Rattle.frs_layout.specs.Writing.{value};
 ghost use Rattle.frs_writer.specs.Parts.{valueWords, WritesModule};
 
 // The n values of the module with this GEO, from row `first` on, as longwords after its header.
-fn values(rows: &[u32], first: usize, geo: u32, n: u32, words: &mut [u32]) -> Part
+fn write_values(rows: &[u32], first: usize, geo: u32, n: u32, words: &mut [u32]) -> Part
     requires { ⌜ (1 ≤ first) × (first ≤ length (rowsIn (now rows))) × (geo < 2 ^ 5) × (n ≤ 32) ⌝ }
     ensures { λ r. ⌜ Writes 32 (each (valueWords geo)) (times (value geo) channels n [] first (drop first (rowsIn (now (rows .entry))))) (rowsIn (now (rows .entry))) 1 (now (words .entry)) r (now (words .exit)) ⌝ }
 {
@@ -45,7 +45,7 @@ fn values(rows: &[u32], first: usize, geo: u32, n: u32, words: &mut [u32]) -> Pa
 }
 
 // The module that begins at row `at`, at the front of the words. The set has the GEOs before it.
-pub(crate) fn one_module(rows: &[u32], at: usize, seen: u32, words: &mut [u32]) -> Part
+pub(crate) fn write_module(rows: &[u32], at: usize, seen: u32, words: &mut [u32]) -> Part
     requires { ⌜ at ≤ length (rowsIn (now rows)) ⌝ }
     ensures { λ r. ⌜ WritesModule seen (rowsIn (now (rows .entry))) at (now (words .entry)) r (now (words .exit)) ⌝ }
 {
@@ -61,16 +61,14 @@ pub(crate) fn one_module(rows: &[u32], at: usize, seen: u32, words: &mut [u32]) 
             count: 1,
         };
     }
+    let written = write_values(rows, at + 1, row.unit, row.channel, words);
+    let Part::Done { next, count } = written else {
+        return written;
+    };
     store_word32(words, 0, longword(row.unit, 2, row.channel));
-    let given = values(rows, at + 1, row.unit, row.channel, words);
-    match given {
-        Part::Refused { number, place } => refuse_part(number, place),
-        Part::Done { next, count } => {
-            store_word32(words, count, longword(row.unit, 4, row.datum));
-            Part::Done {
-                next,
-                count: count + 1,
-            }
-        }
+    store_word32(words, count, longword(row.unit, 4, row.datum));
+    Part::Done {
+        next,
+        count: count + 1,
     }
 }

@@ -1,4 +1,4 @@
--- `begin::scalers` meets its contract. Assumes nothing.
+-- `begin::write_scalers` meets its contract. Assumes nothing.
 use Prim.Native.Nat.{_-_}
 use native.Mathlib.Omega.{arith}
 use mathlib.Core.Path.{refl, sym, _∙_}
@@ -7,8 +7,8 @@ use Rattle.event.proofs.RowsIn.{rows-count}
 use Rattle.event.proofs.Turns.{begin}
 use Rattle.frs_writer.proofs.Scalers.{Scalers, scalers-done, scaler-refused, scaler-taken}
 use borrow.Author.Needs.{needs}
-use Rattle.frs_writer.proofs.begin.scalers.Statement.{statement}
-use Rattle.frs_writer.proofs.begin.scalers.Tie as tie
+use Rattle.frs_writer.proofs.begin.write_scalers.Statement.{statement}
+use Rattle.frs_writer.proofs.begin.write_scalers.Tie as tie
 
 abbrev Inv-loop : tie.InvT-loop
 Inv-loop rows n words₀ index₀ i₀ at₀ words index i at = Scalers (rowsIn rows) n index words₀ i at words
@@ -28,8 +28,8 @@ add-at c = omega (arith, c .before .before .before .before .before .before .befo
 loop-again : tie.Need-loop-again Inv-loop μ-loop
 loop-again c = scaler-taken (c .before .before .before .before .before .before .before .before .loop .inv) (c .before .before .before .before .before .before .before .loop-test .taken) (c .before .before .before .before .before .before .row-at .ensures) (sym (c .before .before .before .before .if1 .left) ∙ c .before .before .before .before .before .scaler-fault .ensures) (c .before .before .store-word32 .ensures) (c .before .before .store-word32 .kept .0)
 
-pub scalers-spec : {M : Type 1} → statement M
-scalers-spec =
+pub write-scalers-spec : {M : Type 1} → statement M
+write-scalers-spec =
     tie.close
     (tie.spec
     Inv-loop

@@ -1,4 +1,4 @@
--- `module::values` meets its contract. Assumes nothing.
+-- `module::write_values` meets its contract. Assumes nothing.
 use Prim.Native.Nat.{_^_, _<_}
 use native.Mathlib.Omega.{arith}
 use mathlib.Core.Path.{refl, sym, _∙_}
@@ -9,8 +9,8 @@ use Rattle.event.proofs.Turns.{begin}
 use Rattle.frs_writer.proofs.RowFaults.{value-fields}
 use Rattle.frs_writer.proofs.Values.{Values, values-done, value-refused, value-taken}
 use borrow.Author.Needs.{needs}
-use Rattle.frs_writer.proofs.module.values.Statement.{statement}
-use Rattle.frs_writer.proofs.module.values.Tie as tie
+use Rattle.frs_writer.proofs.module.write_values.Statement.{statement}
+use Rattle.frs_writer.proofs.module.write_values.Tie as tie
 
 abbrev Inv-loop : tie.InvT-loop
 Inv-loop rows first geo n words₀ left₀ i₀ at₀ seen₀ words left i at seen = Values geo (rowsIn rows) n left seen first words₀ i at words × (geo < 2 ^ 5)
@@ -33,8 +33,8 @@ add-at c = omega (arith, c .before .before .before .before .before .before .befo
 loop-again : tie.Need-loop-again Inv-loop μ-loop
 loop-again c = (value-taken _ (c .before .before .before .before .before .before .before .before .before .before .before .before .loop .inv .0) (c .before .before .before .before .before .before .before .before .before .before .before .loop-test .taken) (c .before .before .before .before .before .before .before .before .before .before .row-at .ensures) (sym (c .before .before .before .before .before .before .before .before .if1 .left) ∙ c .before .before .before .before .before .before .before .before .before .value-fault .ensures) (c .before .before .before .before .before .longword .ensures) (c .before .before .before .store-word32 .ensures) (c .with-channel .ensures) (c .before .before .before .store-word32 .kept .0), c .before .before .before .before .before .before .before .before .before .before .before .before .loop .inv .1)
 
-pub values-spec : {M : Type 1} → statement M
-values-spec =
+pub write-values-spec : {M : Type 1} → statement M
+write-values-spec =
     tie.close
     (tie.spec
     Inv-loop
