@@ -1,4 +1,4 @@
--- What the tables of computed vectors share: runs of words and of rows, and readings into lent buffers. (No law: nothing here is proved.)
+-- What the tables of computed vectors share: runs of words and of rows, and readings and writings into lent buffers. (No law: nothing here is proved.)
 -- Assumes nothing.
 use Prim.Native.Nat.{ℕ, zero, suc, _+_}
 use mathlib.Core.List.{List, [], _∷_}
@@ -18,9 +18,9 @@ abbrev pub risingRows : (kind unit c x n : ℕ) → List Row
 risingRows k u c x zero = []
 risingRows k u c x (suc n) = row k u c x ∷ risingRows k u (suc c) (suc x) n
 
--- words and a buffer that come in, and what stands afterwards
+-- words or elements and a buffer that come in, and what stands afterwards
 pub record Lent : Type 0 where
-  pub words : List ℕ
+  pub input : List ℕ
   pub buffer : List ℕ
 
 pub record Left : Type 0 where
@@ -30,8 +30,14 @@ pub record Left : Type 0 where
 -- a reading into room for so many rows
 abbrev pub readInto : (ℕ → List ℕ → Outcome Row) → Lent → Left
 readInto into l =
-    let x = into (room (length (l .buffer))) (l .words) in
+    let x = into (room (length (l .buffer))) (l .input) in
     record { answer = answerOf x; buffer = overlaid (flat (given x)) (l .buffer) }
+
+-- a writing into room for so many words
+abbrev pub writeInto : (ℕ → List ℕ → Outcome ℕ) → Lent → Left
+writeInto into l =
+    let x = into (length (l .buffer)) (l .input) in
+    record { answer = answerOf x; buffer = overlaid (given x) (l .buffer) }
 
 -- a buffer of n elements
 abbrev pub nines : ℕ → List ℕ
@@ -42,4 +48,4 @@ pub record RoomCase : Type 0 where
   pub left : Left
 
 abbrev pub case : List ℕ → List ℕ → Answer → List ℕ → RoomCase
-case ws b a after = record { lent = record { words = ws; buffer = b }; left = record { answer = a; buffer = after } }
+case xs b a after = record { lent = record { input = xs; buffer = b }; left = record { answer = a; buffer = after } }

@@ -1,12 +1,15 @@
--- Readings of dialect S into buffers at the edges of their room, computed: refusal 12, and what the buffer holds afterwards. The expected answers are document 01's.
+-- Readings and writings of dialect S into buffers at the edges of their room, computed: refusals 12 and 24, and what the buffer holds afterwards. The expected answers are document 01's.
 -- Assumes nothing.
 use Prim.Native.Nat.{ℕ}
 use mathlib.Core.Path.{_≡_, refl}
 use mathlib.Core.List.{List, [], _∷_, _++_, map}
+use lib.ListN.{replicate}
 use Rattle.event.specs.declared.Answer.the-variants.{Accepted, Refused}
 use Rattle.event.specs.declared.StampOrder.the-variants.{Crossed}
-use Rattle.event.proofs.Vectors.{readInto, nines, RoomCase, case}
+use Rattle.event.proofs.Vectors.{readInto, writeInto, nines, RoomCase, case}
+use Rattle.event.specs.Rows.{row, flat}
 use Rattle.s800_layout.specs.Reading.{readingInto}
+use Rattle.s800_layout.specs.Writing.{writingInto}
 
 -- document 01's M, and M with a trigger packet whose time has channel 7, which is refused at 17
 abbrev m : List ℕ
@@ -19,8 +22,8 @@ bad = 0x0012 ∷ 0x5800 ∷ 0x0005 ∷ 0x0006 ∷ 0x5803 ∷ 0x1234 ∷ 0x0000 �
 abbrev elements : List ℕ
 elements = 1 ∷ 0x5803 ∷ 0 ∷ 0 ∷ 2 ∷ 0 ∷ 0 ∷ 0x00011234 ∷ 1 ∷ 0x5804 ∷ 0 ∷ 0 ∷ 3 ∷ 0 ∷ 0 ∷ 7 ∷ []
 
-abbrev cases : List RoomCase
-cases =
+abbrev readings : List RoomCase
+readings =
     -- 12, place the rows needed, the buffer as it was
     case m [] (Refused 12 4) []
     ∷ case m (nines 3) (Refused 12 4) (nines 3)
@@ -37,5 +40,32 @@ cases =
     ∷ case bad (nines 40) (Refused 10 17) (nines 40)
     ∷ []
 
-pub rooms : map (λ (c : RoomCase). readInto (λ r. readingInto r Crossed) (c .lent)) cases ≡ map (λ (c : RoomCase). c .left) cases
+-- M's rows with a third chunk of the event number that is wider than a word: 22 at row 3
+abbrev badElements : List ℕ
+badElements = 1 ∷ 0x5803 ∷ 0 ∷ 0 ∷ 2 ∷ 0 ∷ 0 ∷ 0x00011234 ∷ 1 ∷ 0x5804 ∷ 0 ∷ 0 ∷ 3 ∷ 0 ∷ 0x10000 ∷ 7 ∷ []
+
+-- M's rows and those of an opaque packet that makes 4,097 words of them
+abbrev large : List ℕ
+large = elements ++ flat (row 1 0x5830 0 0 ∷ replicate 4081 (row 11 0 0 0xffff))
+
+abbrev writings : List RoomCase
+writings =
+    -- 24, place the words needed, the buffer as it was
+    case elements [] (Refused 24 14) []
+    ∷ case elements (nines 13) (Refused 24 14) (nines 13)
+    -- room: only the words given are written
+    ∷ case elements (nines 14) (Accepted 14) m
+    ∷ case elements (nines 15) (Accepted 14) (m ++ nines 1)
+    ∷ case elements (nines 40) (Accepted 14) (m ++ nines 26)
+    -- 24 comes last, and no refusal writes
+    ∷ case (9 ∷ elements) [] (Refused 20 0) []
+    ∷ case badElements [] (Refused 22 3) []
+    ∷ case badElements (nines 40) (Refused 22 3) (nines 40)
+    ∷ case large [] (Refused 23 4097) []
+    ∷ []
+
+pub rooms : map (λ (c : RoomCase). readInto (λ r. readingInto r Crossed) (c .lent)) readings ≡ map (λ (c : RoomCase). c .left) readings
 rooms = refl
+
+pub wordRooms : map (λ (c : RoomCase). writeInto (λ r. writingInto r Crossed) (c .lent)) writings ≡ map (λ (c : RoomCase). c .left) writings
+wordRooms = refl
