@@ -1,0 +1,5 @@
+pub mod Tests
+pub mod LineLaws
+pub mod RowLaws
+pub mod TextLaws
+pub mod WordLaws

@@ -1,0 +1,19 @@
+-- `calls::write_s` meets its contract. Assumes nothing.
+use borrow.Author.Needs.{needs}
+use mathlib.Core.Path.{sym}
+use lib.Seq.{length-take-le}
+use Rattle.run_vectors.proofs.calls.write_s.Statement.{statement}
+use Rattle.run_vectors.proofs.calls.write_s.Tie as tie
+
+pub write-s-spec : {M : Type 1} → statement M
+write-s-spec =
+    tie.close
+    (tie.spec
+    (λ c κs. search needs)
+    (λ c. search needs)
+    (λ c κs. search needs)
+    (λ c. search needs)
+    (λ c. sym (length-take-le _ _ (search needs)))
+    (λ c κs. length-take-le _ _ (search needs))
+    (λ c. search needs)
+    (λ c. search needs))

@@ -1,0 +1,16 @@
+-- `calls::write_words` meets its contract. Assumes nothing.
+use borrow.Author.Needs.{needs}
+use mathlib.Core.Path.{sym}
+use lib.Seq.{length-take-le}
+use Rattle.run_vectors.proofs.calls.write_words.Statement.{statement}
+use Rattle.run_vectors.proofs.calls.write_words.Tie as tie
+
+pub write-words-spec : {M : Type 1} → statement M
+write-words-spec =
+    tie.close
+    (tie.spec
+    (λ c. search needs)
+    (λ c. sym (length-take-le _ _ (search needs)))
+    (λ c κs. search needs)
+    (λ c. search needs)
+    (λ c. search needs))

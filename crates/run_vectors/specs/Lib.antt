@@ -1,0 +1,5 @@
+pub mod Lines
+pub mod Vectors
+pub mod Widths
+pub mod Text
+pub mod Runs

@@ -1,0 +1,47 @@
+-- A line of the input: five numbers of eight hexadecimal digits. Assumes nothing.
+use mathlib.Core.Bool.{Bool, true, false, cond, _&&_}
+use mathlib.Core.List.{List}
+use Prim.Native.Nat.{ℕ, zero, suc, _+_, _-_, _*_, _≤_}
+use lib.Dec.{ltb, eqb}
+use lib.ListN.{length, getD}
+use Rattle.run_vectors.specs.declared.lines.Numbers.{Numbers}
+use Rattle.run_vectors.specs.declared.lines.Line.{Line}
+use Rattle.run_vectors.specs.declared.lines.Line.the-variants.{Read, Malformed}
+
+-- `0` to `9` and `a` to `f`; any other character counts as 0
+unfoldable pub digitOf : ℕ → ℕ
+digitOf c = cond (ltb c 48) 0 (cond (ltb c 58) (c - 48) (cond (ltb c 97) 0 (cond (ltb c 103) (c - 87) 0)))
+
+-- the value of the n digits from a place on, the most significant first
+unfoldable pub valueOf : List ℕ → ℕ → ℕ → ℕ
+valueOf input place zero = 0
+valueOf input place (suc n) = valueOf input place n * 16 + digitOf (getD input (place + n) 0)
+
+abbrev pub numberAt : List ℕ → ℕ → ℕ
+numberAt input place = valueOf input place 8
+
+abbrev pub numbersAt : List ℕ → ℕ → Numbers
+numbersAt input place =
+    record {
+      first = numberAt input place;
+      second = numberAt input (place + 9);
+      third = numberAt input (place + 18);
+      fourth = numberAt input (place + 27);
+      fifth = numberAt input (place + 36);
+    }
+
+-- spaces and the line feed
+unfoldable pub separatedAt : List ℕ → ℕ → Bool
+separatedAt input place =
+    eqb (getD input (place + 8) 0) 32
+    && (eqb (getD input (place + 17) 0) 32
+    && (eqb (getD input (place + 26) 0) 32 && (eqb (getD input (place + 35) 0) 32 && eqb (getD input (place + 44) 0) 10)))
+
+unfoldable pub lineAt : List ℕ → ℕ → Line
+lineAt input place =
+    cond (ltb (length input - place) 45) Malformed (cond (separatedAt input place) (Read (numbersAt input place)) Malformed)
+
+-- a line that was read ends within the n bytes of the input
+abbrev pub LineWithin : ℕ → ℕ → Line → Type 0
+LineWithin n place (Read numbers) = place + 45 ≤ n
+LineWithin n place Malformed = Unit {0}

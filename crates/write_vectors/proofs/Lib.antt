@@ -1,4 +1,0 @@
-pub mod Tests
-pub mod LineLaws
-pub mod RowLaws
-pub mod TextLaws

@@ -1,4 +1,0 @@
-pub mod Lines
-pub mod Vectors
-pub mod Text
-pub mod Runs
