@@ -1,4 +1,5 @@
 pub mod Impossible
+pub mod Answers
 pub mod Codes
 pub mod Sequences
 pub mod Many

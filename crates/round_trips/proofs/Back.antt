@@ -13,27 +13,13 @@ use Rattle.event.specs.declared.StampOrder.{StampOrder}
 use Rattle.event.specs.Outcome.{Outcome, done, refused, answerOf, given, overlaid, inRoom, inWordRoom}
 use Rattle.event.specs.Rows.{flat, room}
 use Rattle.event.specs.Writing.{rowsIn}
-use Rattle.event.proofs.Impossible.{impossible}
+use Rattle.event.proofs.Answers.{Given, refused-by, given-by}
 use Rattle.event.proofs.RowCodes.{flat-in}
 use Rattle.event.proofs.Stores.{Gives, length-flat}
 use Rattle.event.proofs.Whole.{limited-iff}
 use Rattle.dialects.specs.Dialects.{Dialect, S, F, reading, readingInto, writing, writingInto}
 use Rattle.dialects.proofs.Demands.{written-back, read-back}
 use Rattle.round_trips.specs.RoundTrips.{wordsBack, rowsBack}
-
--- an outcome by its answer
-refused-by : {A : Type 0} (x : Outcome A) {n p : ℕ} → Refused n p ≡ answerOf x → x ≡ refused n p
-refused-by (done xs) e = impossible cc
-refused-by (refused m q) e = cc
-
-record Given {A : Type 0} (x : Outcome A) (count : ℕ) : Type 0 where
-  items : List A
-  outcome : x ≡ done items
-  counted : count ≡ length items
-
-given-by : {A : Type 0} (x : Outcome A) {k : ℕ} → Accepted k ≡ answerOf x → Given x k
-given-by (done xs) e = record { items = xs; outcome = refl; counted = cc }
-given-by (refused m q) e = impossible cc
 
 module _ (d : Dialect) (o : StampOrder) where
   read-into : (n : ℕ) (ws : List ℕ) → readingInto d n o ws ≡ inRoom n (reading d o ws)
