@@ -1,0 +1,119 @@
+-- Laws of the definitions of a line, over the number of digits: what each turn of a loop finds. Assumes nothing.
+use mathlib.Core.Path.{_≡_, refl, sym, _∙_}
+use mathlib.Core.Bool.{Bool, true, false, cond, _&&_}
+use mathlib.Core.List.{List, [], _∷_, _++_, append-assoc}
+use Prim.Native.Nat.{ℕ, zero, suc, _+_, _-_, _*_, _/_, _%_, _^_, _≤_, _<_}
+use native.Mathlib.Nat.{not-suc-le-zero, mul-suc, pow-suc, pow-le-pow-right}
+use native.Mathlib.Numerals.{add-one, sub-one}
+use native.Mathlib.Omega.{arith}
+use mathlib.Core.Logic.{_≢_}
+use lib.Dec.{ltb, leb, eqb, lit<}
+use lib.ListN.{length, getD, drop, set, length-append}
+use lib.Seq.{set-at, drop-cons}
+use borrow.Author.Tests.{le-leb, lt-leb}
+use Rattle.hex_line.specs.Line.{isDigit, digitOf, valueOf, allDigits, allGroups, wellFormed, firsts}
+
+-- a test that counts down: at its end, and by what its first turn finds
+pub digits-none : (line : List ℕ) (at n : ℕ) → n ≤ 0 → allDigits line at n ≡ true
+unfolding allDigits
+digits-none line at zero h = refl
+digits-none line at (suc n) h = absurd (not-suc-le-zero h)
+
+pub digits-no : (line : List ℕ) (at n : ℕ) → 0 < n → isDigit (getD line at 0) ≡ false → allDigits line at n ≡ false
+unfolding allDigits
+digits-no line at zero h e = absurd (not-suc-le-zero h)
+digits-no line at (suc n) h e = rw e
+
+pub digits-yes : (line : List ℕ) (at n : ℕ) → 0 < n → isDigit (getD line at 0) ≡ true
+    → allDigits line at n ≡ allDigits line (at + 1) (n - 1)
+unfolding allDigits
+digits-yes line at zero h e = absurd (not-suc-le-zero h)
+digits-yes line at (suc n) h e = rw (e, sub-one)
+
+module _ (k : ℕ) (line : List ℕ) (at : ℕ) where
+  pub groups-none : (n : ℕ) → n ≤ 0 → allGroups k line at n ≡ true
+  unfolding allGroups
+  groups-none zero h = refl
+  groups-none (suc n) h = absurd (not-suc-le-zero h)
+
+  pub groups-no-space : (n : ℕ) → 0 < n → eqb (getD line at 0) 32 ≡ false → allGroups k line at n ≡ false
+  unfolding allGroups
+  groups-no-space zero h e = absurd (not-suc-le-zero h)
+  groups-no-space (suc n) h e = rw e
+
+  pub groups-no-digit : (n : ℕ) → 0 < n → eqb (getD line at 0) 32 ≡ true → allDigits line (at + 1) k ≡ false → allGroups k line at n ≡ false
+  unfolding allGroups
+  groups-no-digit zero h s e = absurd (not-suc-le-zero h)
+  groups-no-digit (suc n) h s e = rw (s, e)
+
+  pub groups-yes : (n : ℕ) → 0 < n → eqb (getD line at 0) 32 ≡ true → allDigits line (at + 1) k ≡ true
+      → allGroups k line at n ≡ allGroups k line (at + (k + 1)) (n - 1)
+  unfolding allGroups
+  groups-yes zero h s e = absurd (not-suc-le-zero h)
+  groups-yes (suc n) h s e = rw (s, e, sub-one)
+
+-- nor has it another letter
+no-second : (a c d : Bool) → (a && false && c && d) ≡ false
+no-second true c d = refl
+no-second false c d = refl
+
+pub formed-not : (first k : ℕ) (line : List ℕ) → eqb (getD line 0 0) first ≡ false → wellFormed first k line ≡ false
+unfolding wellFormed
+formed-not first k line e = rw (e, no-second)
+
+-- a length that is not 0, and one that is
+pub length-some : (n : ℕ) → n ≢ 0 → leb 1 n ≡ true
+length-some zero h = absurd (h refl)
+length-some (suc n) h = le-leb 1 (suc n) (omega arith)
+
+pub length-none : (n : ℕ) → n ≡ 0 → leb 1 n ≡ false
+length-none n e = lt-leb 1 n (omega arith)
+
+-- one group less to go
+pub product-first : (w n : ℕ) → 0 < n → w * n ≡ w + w * (n - 1)
+product-first w zero h = absurd (not-suc-le-zero h)
+product-first w (suc n) h = rw (sub-one, mul-suc) (omega arith)
+
+-- a line of the right form is not empty
+pub formed-long : (first k : ℕ) (line : List ℕ) → wellFormed first k line ≡ true → 0 < length line
+unfolding wellFormed
+formed-long first k [] h = let z : _≡_ {A = ℕ} 0 1 = cc in omega arith
+formed-long first k (x ∷ xs) h = omega arith
+
+-- a digit is below 16, and n digits are below 16 ^ n
+below : (b : Bool) (x y : ℕ) → cond b (x % 16) (y % 16) < 16
+below true x y = omega arith
+below false x y = omega arith
+
+pub digit-lt : (c : ℕ) → digitOf c < 16
+unfolding digitOf
+digit-lt c = below (ltb c 58) c (c + 9)
+
+pub value-lt : (line : List ℕ) (at n : ℕ) → valueOf line at n < 16 ^ n
+unfolding valueOf
+value-lt line at zero = omega arith
+value-lt line at (suc n) = rw pow-suc (omega (arith, value-lt line at n, digit-lt (getD line (at + n) 0)))
+
+-- so one digit more keeps seven digits below 2 ^ 32
+pub value-room : (line : List ℕ) (at n : ℕ) → n < 8 → valueOf line at n < 268435456
+value-room line at n h =
+    let p : 16 ^ n ≤ 16 ^ 7 = pow-le-pow-right (lit< tt) {i = n} {j = 7} (omega arith) in omega (arith, value-lt line at n)
+
+pub value-next : (line : List ℕ) (at n : ℕ) → valueOf line at (n + 1) ≡ valueOf line at n * 16 + digitOf (getD line (at + n) 0)
+unfolding valueOf
+value-next line at n = rw add-one
+
+-- the words stored so far, and one more behind them
+pub firsts-length : (f : ℕ → ℕ) (n : ℕ) → length (firsts f n) ≡ n
+unfolding firsts
+firsts-length f zero = refl
+firsts-length f (suc n) = length-append (firsts f n) _ ∙ omega (arith, firsts-length f n)
+
+store-next : (ws out : List ℕ) (k v : ℕ) → length ws ≡ k → k < length out
+    → set (ws ++ drop k out) k v ≡ (ws ++ (v ∷ [])) ++ drop (k + 1) out
+store-next ws out k v e h = rw (add-one, drop-cons out k 0, append-assoc, set-at ws (getD out k 0) (drop (suc k) out) v k e)
+
+pub firsts-next : (f : ℕ → ℕ) (out : List ℕ) (k : ℕ) → k < length out
+    → set (firsts f k ++ drop k out) k (f k) ≡ firsts f (k + 1) ++ drop (k + 1) out
+unfolding firsts
+firsts-next f out k h = rw (add-one k, ← add-one k) (store-next (firsts f k) out k (f k) (firsts-length f k) h)
