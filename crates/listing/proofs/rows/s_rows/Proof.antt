@@ -1,0 +1,31 @@
+-- `rows::s_rows` meets its contract. Assumes nothing.
+use native.Mathlib.Omega.{arith}
+use lib.Seq.{length-take-le}
+use mathlib.Core.Path.{refl, sym, _∙_}
+use Rattle.dialects.specs.Dialects.{S}
+use Rattle.listing.proofs.LineRows.{not-words, words-inside, words-read}
+use borrow.Author.Needs.{needs}
+use Rattle.listing.proofs.rows.s_rows.Statement.{statement}
+use Rattle.listing.proofs.rows.s_rows.Tie as tie
+
+returns : tie.Need-returns
+returns c =
+    let t = not-words S (c .before .before .before .before .before .before .before .before .before .args .order) (c .before .before .before .before .before .before .before .before .before .args .line .now) (c .before .before .before .before .before .before .before .before .before .args .words .now) (c .before .before .before .before .before .before .before .before .before .args .rows .now) (sym (c .enum-told .given .1) ∙ c .before .before .before .before .s-words .ensures .0) in
+    (rw (c .enum-told .given .1) (t .answered), (t .written, c .before .before .before .before .s-words .ensures .1))
+
+slice-reshare-prefix-read : tie.Need-slice-reshare-prefix-read
+slice-reshare-prefix-read c = omega (arith, words-inside S (c .before .before .before .before .before .before .before .before .before .before .args .order) (c .before .before .before .before .before .before .before .before .before .before .args .line .now) (c .before .before .before .before .before .before .before .before .before .before .args .words .now) (c .before .before .before .before .before .before .before .before .before .before .args .rows .now) (sym (c .before .answer .given .1) ∙ c .before .before .before .before .before .s-words .ensures .0), c .before .before .before .before .before .s-words .kept .1 .0)
+
+slice-aggregate-read : tie.Need-slice-aggregate-read
+slice-aggregate-read c = sym (length-take-le _ _ (omega (arith, words-inside S (c .before .before .before .before .before .before .before .before .before .before .before .args .order) (c .before .before .before .before .before .before .before .before .before .before .before .args .line .now) (c .before .before .before .before .before .before .before .before .before .before .before .args .words .now) (c .before .before .before .before .before .before .before .before .before .before .before .args .rows .now) (sym (c .before .before .answer .given .1) ∙ c .before .before .before .before .before .before .s-words .ensures .0), c .before .before .before .before .before .before .s-words .kept .1 .0)))
+
+returns-2 : tie.Need-returns-2
+returns-2 c =
+    let t = words-read S (c .before .before .before .before .before .before .before .before .before .before .before .before .before .before .before .args .order) (c .before .before .before .before .before .before .before .before .before .before .before .before .before .before .before .args .line .now) (c .before .before .before .before .before .before .before .before .before .before .before .before .before .before .before .args .words .now) (c .before .before .before .before .before .before .before .before .before .before .before .before .before .before .before .args .rows .now) (sym (c .before .before .before .before .before .before .answer .given .1) ∙ c .before .before .before .before .before .before .before .before .before .before .s-words .ensures .0) (c .before .before .before .before .before .before .before .before .before .before .s-words .ensures .1) refl (c .before .before .read .ensures .0) (c .before .before .read .ensures .1) in
+    (t .answered, (t .written, c .before .before .before .before .before .before .before .before .before .before .s-words .ensures .1))
+
+pub s-rows-spec : {M : Type 1} → statement M
+s-rows-spec =
+    tie.close
+    (tie.spec (λ c κs. search needs) (λ c. search needs) (λ c. search needs) (λ c. search needs) returns slice-reshare-prefix-read
+    slice-aggregate-read (λ c κs. search needs) (λ c. search needs) (λ c. search needs) returns-2)

@@ -1,0 +1,4 @@
+pub mod Input
+pub mod Lengths
+pub mod Listing
+pub mod Text
