@@ -1,0 +1,170 @@
+//! `compare`: random events through both programs under test, byte for byte.
+
+use crate::base::Order;
+use crate::cases::{self, Case};
+use crate::child::{self, Outcome};
+use crate::damage_line;
+use crate::difference;
+use crate::lines::{self, MOST_LINES};
+use crate::rng::Rng;
+use crate::tally::Tally;
+
+/// A batch ends when it has so many events or so many bytes of vectors. One event adds at most
+/// two vectors of some 190,000 bytes, so the input stays below 1,048,576 bytes.
+const BATCH_EVENTS: usize = 1000;
+const BATCH_BYTES: usize = 600_000;
+/// From so many events on, each wanted refusal must be met and the line limit is tried.
+const LONG_RUN: usize = 10_000;
+
+pub struct Settings {
+    pub seed: u64,
+    pub events: usize,
+    pub list_events: String,
+    pub run_vectors: String,
+}
+
+struct Batch {
+    /// The index of the first event among all.
+    first_event: usize,
+    cases: Vec<Case>,
+    /// Standard input of the two programs.
+    line_text: Vec<u8>,
+    vector_text: Vec<u8>,
+}
+
+/// Runs the whole comparison; an error is the report of the first difference.
+pub fn run(settings: &Settings) -> Result<(), String> {
+    let mut tally = Tally::new();
+    let mut rng = Rng::new(settings.seed);
+    let mut done = 0;
+    compare_batch(settings, &Batch::empty(), &mut tally)?;
+    while done < settings.events {
+        let batch = Batch::random(&mut rng, done, settings.events - done);
+        compare_batch(settings, &batch, &mut tally)?;
+        done += batch.cases.len();
+    }
+    if settings.events >= LONG_RUN {
+        compare_line_limit(settings)?;
+    }
+    print!("{}", tally.report());
+    let missing = tally.missing();
+    if settings.events >= LONG_RUN && !missing.is_empty() {
+        return Err(format!("refusals not met: {missing:?}"));
+    }
+    println!("{done} events, no difference");
+    Ok(())
+}
+
+impl Batch {
+    fn empty() -> Batch {
+        Batch { first_event: 0, cases: vec![], line_text: vec![], vector_text: vec![] }
+    }
+
+    fn random(rng: &mut Rng, first_event: usize, most: usize) -> Batch {
+        let mut batch = Batch { first_event, ..Batch::empty() };
+        let size = most.min(rng.within(BATCH_EVENTS / 2, BATCH_EVENTS));
+        while batch.cases.len() < size && batch.vector_text.len() < BATCH_BYTES {
+            let case = cases::random(rng);
+            batch.line_text.extend_from_slice(&case.line);
+            batch.line_text.push(b'\n');
+            for vector in &case.vectors {
+                vector.push_text(&mut batch.vector_text);
+            }
+            batch.cases.push(case);
+        }
+        end_lines(rng, &mut batch.line_text);
+        batch
+    }
+}
+
+/// Ends of the line input: as it is, without the last line feed, with a line of the largest
+/// length, or with one too long, after which more may follow.
+fn end_lines(rng: &mut Rng, text: &mut Vec<u8>) {
+    match rng.below(8) {
+        0 => drop(text.pop()),
+        1 => text.extend_from_slice(&damage_line::longest(rng)),
+        2 => text.extend_from_slice(&damage_line::too_long(rng)),
+        3 => {
+            text.extend_from_slice(&damage_line::too_long(rng));
+            text.extend_from_slice(b"\nS 0001\n");
+        }
+        4 => text.push(b'\n'),
+        _ => {}
+    }
+}
+
+fn compare_batch(settings: &Settings, batch: &Batch, tally: &mut Tally) -> Result<(), String> {
+    let first = batch.first_event + 1;
+    let label = |problem: String| format!("seed {}, events from {first}: {problem}", settings.seed);
+    let listing = child::start(&settings.list_events, batch.line_text.clone()).map_err(label)?;
+    let calls = child::start(&settings.run_vectors, batch.vector_text.clone()).map_err(label)?;
+    let mut expected_listing = Vec::new();
+    lines::list(&batch.line_text, Order::Crossed, &mut expected_listing, &mut |words, answer| {
+        tally.add_line(words, answer);
+    });
+    let mut expected_answers = Vec::new();
+    for vector in batch.cases.iter().flat_map(|case| &case.vectors) {
+        let answer = vector.push_answer(&mut expected_answers);
+        tally.add_call(vector.call, answer);
+    }
+    let listing = listing.finish();
+    let calls = calls.finish();
+    judge(&settings.list_events, &batch.line_text, &expected_listing, &listing, |line| {
+        let (event, input) = difference::line_of_output(&batch.line_text, &expected_listing, line);
+        format!("event {} of the run, input line: {input}", first + event)
+    })
+    .map_err(label)?;
+    judge(&settings.run_vectors, &batch.vector_text, &expected_answers, &calls, |line| {
+        let index = difference::vector_of_output(&expected_answers, line);
+        let (event, input) = vector_input(batch, index);
+        format!("event {} of the run, input vector:\n{input}", first + event)
+    })
+    .map_err(label)
+}
+
+/// The event that a vector of the batch belongs to, and the vector's text.
+fn vector_input(batch: &Batch, index: usize) -> (usize, String) {
+    let mut vectors_before = 0;
+    for (event, case) in batch.cases.iter().enumerate() {
+        if index < vectors_before + case.vectors.len() {
+            let mut text = Vec::new();
+            case.vectors[index - vectors_before].push_text(&mut text);
+            return (event, String::from_utf8_lossy(&text).into_owned());
+        }
+        vectors_before += case.vectors.len();
+    }
+    (batch.cases.len(), "(none: output after the last vector's)".to_string())
+}
+
+/// Compares an outcome with what was expected; `describe` tells of the input of an output line.
+fn judge(
+    program: &str,
+    input: &[u8],
+    expected: &[u8],
+    outcome: &Outcome,
+    describe: impl Fn(usize) -> String,
+) -> Result<(), String> {
+    if outcome.output == expected && outcome.trouble.is_none() {
+        return Ok(());
+    }
+    let kept = difference::keep_input(input);
+    let trouble = outcome.trouble.as_deref().unwrap_or("its output differs");
+    let Some(line) = difference::first_line(expected, &outcome.output) else {
+        return Err(format!("{program}: {trouble}; its output is as expected\n{kept}"));
+    };
+    let around = difference::around(expected, &outcome.output, line);
+    Err(format!("{program}: {trouble}\n{}\n{around}\n{kept}", describe(line)))
+}
+
+/// Lines `S` up to the line limit, one more that is empty, and one more without line feed.
+fn compare_line_limit(settings: &Settings) -> Result<(), String> {
+    for last in [&b""[..], b"\n", b"S"] {
+        let input = [b"S\n".repeat(MOST_LINES), last.to_vec()].concat();
+        let running = child::start(&settings.list_events, input.clone())?;
+        let mut expected = Vec::new();
+        lines::list(&input, Order::Crossed, &mut expected, &mut |_, _| {});
+        let what = format!("line limit: {MOST_LINES} lines 'S', then '{}'", last.escape_ascii());
+        judge(&settings.list_events, &input, &expected, &running.finish(), |_| what.clone())?;
+    }
+    Ok(())
+}

@@ -1,0 +1,163 @@
+//! Damage to the words of dialect S. Enclosing lengths are often repaired afterwards, so that
+//! an inner fault is reached and not hidden by refusal 2 or 5.
+
+use crate::make_s::{self, Packet};
+use crate::rng::Rng;
+use crate::tags;
+
+/// The words of an event of these packets, damaged in one to three ways.
+pub fn damaged(rng: &mut Rng, mut packets: Vec<Packet>) -> Vec<u16> {
+    for _ in 0..rng.pick(&[1, 1, 1, 1, 2, 3]) {
+        if rng.chance(25) {
+            damage_packets(rng, &mut packets);
+        } else {
+            damage_one(rng, &mut packets);
+        }
+    }
+    let mut words = make_s::event_of(&packets);
+    if rng.chance(20) {
+        damage_event(rng, &mut words);
+        if rng.chance(50) {
+            words[0] = words.len() as u16;
+        }
+    }
+    words
+}
+
+/// Packets lost, doubled, swapped, or one of any tag and any words put in.
+fn damage_packets(rng: &mut Rng, packets: &mut Vec<Packet>) {
+    if packets.is_empty() {
+        return;
+    }
+    let (one, other) = (rng.below(packets.len()), rng.below(packets.len()));
+    match rng.below(4) {
+        0 => drop(packets.remove(one)),
+        1 => packets.insert(other, packets[one].clone()),
+        2 => packets.swap(one, other),
+        _ => {
+            let content: Vec<u16> = (0..rng.below(8)).map(|_| rng.next() as u16).collect();
+            let tag = any_tag(rng);
+            packets.insert(rng.below(packets.len() + 1), make_s::packet(tag, &content));
+        }
+    }
+}
+
+/// A known tag, an inner one, or one near to a known one.
+fn any_tag(rng: &mut Rng) -> u16 {
+    let others = [
+        tags::EVENT,
+        tags::STAMP,
+        tags::EVENT_NUMBER,
+        tags::ION_CHAMBER_ENERGIES,
+        tags::CRDC_RAW,
+        tags::CRDC_ANODE,
+        0,
+        0xffff,
+        0x58d0,
+        0x5ff0,
+    ];
+    let tag = if rng.chance(70) { rng.pick(&tags::LATER) } else { rng.pick(&others) };
+    match rng.below(8) {
+        0 => tag.wrapping_add(1),
+        1 => tag ^ 0x10,
+        2 => tag.swap_bytes(),
+        _ => tag,
+    }
+}
+
+/// One packet damaged, mostly one of the later ones.
+fn damage_one(rng: &mut Rng, packets: &mut [Packet]) {
+    if packets.is_empty() {
+        return;
+    }
+    let from = if rng.chance(80) { 2.min(packets.len() - 1) } else { 0 };
+    let index = rng.within(from, packets.len() - 1);
+    let packet = &mut packets[index];
+    if packet.len() < 2 {
+        return;
+    }
+    match rng.below(5) {
+        0 => damage_head(rng, packet),
+        1 => damage_count(rng, packet),
+        _ => damage_word(rng, packet),
+    }
+    if rng.chance(80) {
+        packet[0] = packet.len() as u16;
+        if rng.chance(60) {
+            repair_inner(packet);
+        }
+    }
+}
+
+/// The length, the tag, the id or the words of an inner head.
+fn damage_head(rng: &mut Rng, packet: &mut Packet) {
+    let index = rng.below(packet.len().min(5));
+    packet[index] = match (index, rng.below(4)) {
+        (1, _) => any_tag(rng),
+        (_, 0) => packet[index].wrapping_add(1),
+        (_, 1) => packet[index].wrapping_sub(1),
+        (_, 2) => rng.below(6) as u16,
+        _ => rng.number(16) as u16,
+    };
+}
+
+/// Words lost, added, doubled, or very many added.
+fn damage_count(rng: &mut Rng, packet: &mut Packet) {
+    let at = rng.below(packet.len());
+    match rng.below(5) {
+        0 => drop(packet.remove(at)),
+        1 => packet.insert(at, rng.next() as u16),
+        2 => packet.insert(at, packet[at]),
+        3 => packet.push(rng.number(16) as u16),
+        _ => {
+            let extra = rng.within(1, 20);
+            packet.extend((0..extra).map(|index| (index << 12) as u16));
+        }
+    }
+    packet.resize(packet.len().max(2), 0);
+}
+
+/// One word of the content: bits, channels and reserved bits.
+fn damage_word(rng: &mut Rng, packet: &mut Packet) {
+    if packet.len() < 3 {
+        return;
+    }
+    let one = rng.within(2, packet.len() - 1);
+    let other = rng.within(2, packet.len() - 1);
+    match rng.below(8) {
+        0 => packet[one] ^= 1 << rng.below(16),
+        1 => packet[one] = packet[one] & 0x0fff | (rng.below(16) << 12) as u16,
+        2 | 5 | 6 => packet[one] = packet[one] & 0x0fff | packet[other] & 0xf000,
+        3 => packet[one] = packet[one].wrapping_add(rng.pick(&[0x1000, 0xf000, 0x2000, 0xe000])),
+        4 => packet.swap(one, other),
+        _ => packet[one] = rng.number(16) as u16,
+    }
+}
+
+/// The inner lengths that a packet of this length must have, where it has inner packets.
+fn repair_inner(packet: &mut Packet) {
+    let length = packet.len();
+    match packet[1] {
+        tags::ION_CHAMBER if length > 2 => packet[2] = length as u16 - 2,
+        tags::CRDC if length >= 10 => packet[3] = length as u16 - 7,
+        _ => {}
+    }
+}
+
+/// The event as a run of words: flips, losses, additions, truncation and padding.
+fn damage_event(rng: &mut Rng, words: &mut Vec<u16>) {
+    let at = rng.below(words.len());
+    match rng.below(8) {
+        0 => words[at] ^= 1 << rng.below(16),
+        1 => drop(words.remove(at)),
+        2 => words.insert(at, rng.next() as u16),
+        3 => words.truncate(at.max(1)),
+        4 => words.resize(words.len() + rng.within(1, 20), 0),
+        5 => words[rng.below(3)] = rng.pick(&[0, 5, 14, 0x5800, 0x0058, 4096]),
+        6 => words[0] = words[0].wrapping_add(rng.pick(&[1, 0xffff])),
+        _ => {
+            let length = rng.pick(&[1, 3, 9, 12, 13]);
+            words.truncate(length);
+        }
+    }
+}

@@ -1,0 +1,156 @@
+//! The hexadecimal lines and the listing (01, "The hexadecimal lines").
+
+use crate::base::{refuse, Answer, Order, Refusal, Row, Words};
+use crate::{read_f, read_s};
+
+/// The most characters (bytes) before the line feed.
+pub const LONGEST_LINE: usize = 20_481;
+pub const MOST_LINES: usize = 1_000_000;
+
+/// One line without its line feed; refusal 30 for anything but the form of 01.
+pub fn words_of_line(line: &[u8]) -> Result<Words, Refusal> {
+    if line.len() > LONGEST_LINE {
+        return refuse(30, 0);
+    }
+    match line.split_first() {
+        Some((b'S', rest)) => Ok(Words::S(numbers(rest, 4)?.iter().map(|&n| n as u16).collect())),
+        Some((b'F', rest)) => Ok(Words::F(numbers(rest, 8)?)),
+        _ => refuse(30, 0),
+    }
+}
+
+/// For each word a space and so many lower-case hexadecimal digits.
+fn numbers(text: &[u8], digits: usize) -> Result<Vec<u32>, Refusal> {
+    let mut numbers = Vec::with_capacity(text.len() / (digits + 1));
+    for group in text.chunks(digits + 1) {
+        if group.len() != digits + 1 || group[0] != b' ' {
+            return refuse(30, 0);
+        }
+        let mut number = 0;
+        for &character in &group[1..] {
+            number = number << 4 | digit_value(character)?;
+        }
+        numbers.push(number);
+    }
+    Ok(numbers)
+}
+
+fn digit_value(character: u8) -> Result<u32, Refusal> {
+    match character {
+        b'0'..=b'9' => Ok(u32::from(character - b'0')),
+        b'a'..=b'f' => Ok(u32::from(character - b'a') + 10),
+        _ => refuse(30, 0),
+    }
+}
+
+/// The line of some words, without line feed.
+pub fn line_of(words: &Words) -> Vec<u8> {
+    let mut line = Vec::new();
+    match words {
+        Words::S(words) => {
+            line.push(b'S');
+            for &word in words {
+                line.push(b' ');
+                push_hex(&mut line, u32::from(word), 4);
+            }
+        }
+        Words::F(words) => {
+            line.push(b'F');
+            for &word in words {
+                line.push(b' ');
+                push_hex(&mut line, word, 8);
+            }
+        }
+    }
+    line
+}
+
+pub fn push_hex(text: &mut Vec<u8>, number: u32, digits: u32) {
+    for place in (0..digits).rev() {
+        text.push(b"0123456789abcdef"[(number >> (4 * place) & 15) as usize]);
+    }
+}
+
+/// The rows of an event of either dialect, room being no matter.
+pub fn rows_of(words: &Words, order: Order) -> Result<Vec<Row>, Refusal> {
+    match words {
+        Words::S(words) => read_s::rows_of(words, order),
+        Words::F(words) => read_f::rows_of(words),
+    }
+}
+
+/// Lists a whole input. Each line's dialect, if it has the form of a line, and its answer are
+/// given to `note` as well.
+pub fn list(
+    input: &[u8],
+    order: Order,
+    output: &mut Vec<u8>,
+    note: &mut dyn FnMut(Option<&Words>, Answer),
+) {
+    let (mut accepted, mut refused) = (0, 0);
+    let mut rest = input;
+    let mut is_cut = false;
+    while !rest.is_empty() && !is_cut {
+        if accepted + refused == MOST_LINES {
+            is_cut = true;
+            break;
+        }
+        let end = rest.iter().position(|&byte| byte == b'\n');
+        let line = &rest[..end.unwrap_or(rest.len())];
+        rest = end.map_or(&[], |end| &rest[end + 1..]);
+        let answer = list_line(line, accepted + refused + 1, order, output, note);
+        match answer {
+            Ok(_) => accepted += 1,
+            Err(_) => refused += 1,
+        }
+        is_cut = line.len() > LONGEST_LINE;
+    }
+    output.extend_from_slice(if is_cut { b"cut events " } else { b"end events " });
+    push_hex(output, accepted as u32, 8);
+    output.extend_from_slice(b" refused ");
+    push_hex(output, refused as u32, 8);
+    output.push(b'\n');
+}
+
+fn list_line(
+    line: &[u8],
+    number: usize,
+    order: Order,
+    output: &mut Vec<u8>,
+    note: &mut dyn FnMut(Option<&Words>, Answer),
+) -> Answer {
+    let words = words_of_line(line);
+    let rows = words.as_ref().map_err(|&refusal| refusal).and_then(|words| rows_of(words, order));
+    output.extend_from_slice(b"event ");
+    push_hex(output, number as u32, 8);
+    match &rows {
+        Ok(rows) => {
+            output.extend_from_slice(b" rows ");
+            push_hex(output, rows.len() as u32, 8);
+            output.push(b'\n');
+            for row in rows {
+                push_row(output, row);
+            }
+        }
+        Err(refusal) => {
+            output.extend_from_slice(b" refused ");
+            push_hex(output, refusal.number, 8);
+            output.extend_from_slice(b" place ");
+            push_hex(output, refusal.place, 8);
+            output.push(b'\n');
+        }
+    }
+    let answer = rows.map(|rows| rows.len() as u32);
+    note(words.as_ref().ok(), answer);
+    answer
+}
+
+fn push_row(output: &mut Vec<u8>, row: &Row) {
+    for (index, &field) in row.iter().enumerate() {
+        if index > 0 {
+            output.push(b' ');
+        }
+        push_hex(output, field, 8);
+    }
+    output.push(b'\n');
+}
