@@ -1,6 +1,6 @@
 -- Demands 2 and 3, as specs/Demands states them.
 -- Assumes nothing.
-use Prim.Native.Nat.{ℕ, suc, _+_}
+use Prim.Native.Nat.{ℕ, suc, _+_, _≤_}
 use native.Mathlib.Omega.{arith}
 use mathlib.Core.Path.{_≡_, refl, ap, sym, subst}
 use mathlib.Core.List.{List, _∷_}
@@ -19,6 +19,7 @@ use Rattle.s800_layout.proofs.Event as EventS
 use Rattle.s800_layout.proofs.Reading as ReadingS
 use Rattle.s800_layout.proofs.Writing as WritingS
 use Rattle.s800_layout.proofs.Width as WidthS
+use Rattle.s800_layout.proofs.RowCount as RowCountS
 use Rattle.frs_layout.specs.Reading.{atStamp as atStampF}
 use Rattle.frs_layout.specs.Writing.{atStamp as atStampRowF}
 use Rattle.frs_layout.proofs.Words as WordsF
@@ -26,7 +27,8 @@ use Rattle.frs_layout.proofs.Rows as RowsF
 use Rattle.frs_layout.proofs.Reading as ReadingF
 use Rattle.frs_layout.proofs.Writing as WritingF
 use Rattle.frs_layout.proofs.Width as WidthF
-use Rattle.dialects.specs.Demands.{ReadingExact, ReadingInRoomExact, WritingExact, WritingInRoomExact, WrittenBack, ReadBack, AcceptableExact, RowsOfLayout, SameRuns}
+use Rattle.frs_layout.proofs.RowCount as RowCountF
+use Rattle.dialects.specs.Demands.{ReadingExact, ReadingInRoomExact, RowsWithinWords, WritingExact, WritingInRoomExact, WrittenBack, ReadBack, AcceptableExact, RowsOfLayout, SameRuns}
 use Rattle.dialects.specs.Dialects.{Dialect, S, F, Event, Valid, words, rows, width, reading, AcceptableIn, rowsOf}
 
 pub reading-iff : ReadingExact
@@ -36,6 +38,13 @@ reading-iff F o = ReadingF.reading-iff
 pub reading-in-room : ReadingInRoomExact
 reading-in-room S room o = ReadingS.reading-in-room room o
 reading-in-room F room o = ReadingF.reading-in-room room
+
+no-more-rows : (d : Dialect) (o : StampOrder) (e : Event d) → length (rows d o e) ≤ length (words d e)
+no-more-rows S o = RowCountS.no-more-rows o
+no-more-rows F o = RowCountF.no-more-rows
+
+pub rows-within-words : RowsWithinWords
+rows-within-words d o ws rs e = let v = reading-iff d o ws rs .0 e in omega (arith, no-more-rows d o (v .event), ap length (v .itsWords), ap length (v .itsRows))
 
 pub writing-iff : WritingExact
 writing-iff S o = WritingS.writing-iff o

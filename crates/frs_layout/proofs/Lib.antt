@@ -9,3 +9,4 @@ pub mod Refusals
 pub mod EdgesOfWriting
 pub mod WritingRefusals
 pub mod Rooms
+pub mod RowCount

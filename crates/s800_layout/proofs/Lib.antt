@@ -10,3 +10,4 @@ pub mod EdgesOfWriting
 pub mod Refusals
 pub mod WritingRefusals
 pub mod Rooms
+pub mod RowCount
