@@ -65,10 +65,10 @@ module _ (width : ℕ) where
 
 -- a part `&mut b[a..]` that is lent, and comes back
 module _ (a : ℕ) (b : List ℕ) where
-  part-lent : take (length b - a) (drop a b) ≡ drop a b
+  pub part-lent : take (length b - a) (drop a b) ≡ drop a b
   part-lent = take-all (length b - a) (drop a b) (le-of-eq (length-drop a b))
 
-  part-back : (ys : List ℕ) → putMid a (length b - a) b ys ≡ take a b ++ ys
+  pub part-back : (ys : List ℕ) → putMid a (length b - a) b ys ≡ take a b ++ ys
   part-back ys =
       ap (λ (l : List ℕ). take a b ++ (ys ++ l)) (drop-of-length-le (drop a b) (le-of-eq (length-drop a b)))
       ∙ rw append-nil

@@ -1,6 +1,6 @@
 -- Laws of the definitions of a line, over the number of digits: what each turn of a loop finds. Assumes nothing.
 use mathlib.Core.Path.{_≡_, refl, sym, _∙_}
-use mathlib.Core.Bool.{Bool, true, false, cond, _&&_}
+use mathlib.Core.Bool.{Bool, true, false, cond, _&&_, false≢true}
 use mathlib.Core.List.{List, [], _∷_, _++_, append-assoc}
 use Prim.Native.Nat.{ℕ, zero, suc, _+_, _-_, _*_, _/_, _%_, _^_, _≤_, _<_}
 use native.Mathlib.Nat.{not-suc-le-zero, mul-suc, pow-suc, pow-le-pow-right}
@@ -10,8 +10,8 @@ use mathlib.Core.Logic.{_≢_}
 use lib.Dec.{ltb, leb, eqb, lit<}
 use lib.ListN.{length, getD, drop, set, length-append}
 use lib.Seq.{set-at, drop-cons}
-use borrow.Author.Tests.{le-leb, lt-leb}
-use Rattle.hex_line.specs.Line.{isDigit, digitOf, valueOf, allDigits, allGroups, wellFormed, firsts}
+use borrow.Author.Tests.{le-leb, lt-leb, leb-true, leb-false}
+use Rattle.hex_line.specs.Line.{isDigit, digitOf, valueOf, allDigits, allGroups, wellFormed, firsts, longestLine}
 
 -- a test that counts down: at its end, and by what its first turn finds
 pub digits-none : (line : List ℕ) (at n : ℕ) → n ≤ 0 → allDigits line at n ≡ true
@@ -52,6 +52,12 @@ module _ (k : ℕ) (line : List ℕ) (at : ℕ) where
   groups-yes zero h s e = absurd (not-suc-le-zero h)
   groups-yes (suc n) h s e = rw (s, e, sub-one)
 
+-- a line of the right form is not empty
+pub formed-long : (first k : ℕ) (line : List ℕ) → wellFormed first k line ≡ true → 0 < length line
+unfolding wellFormed
+formed-long first k [] h = let z : _≡_ {A = ℕ} 0 1 = cc in omega arith
+formed-long first k (x ∷ xs) h = omega arith
+
 -- nor has it another letter
 no-second : (a c d : Bool) → (a && false && c && d) ≡ false
 no-second true c d = refl
@@ -60,6 +66,22 @@ no-second false c d = refl
 pub formed-not : (first k : ℕ) (line : List ℕ) → eqb (getD line 0 0) first ≡ false → wellFormed first k line ≡ false
 unfolding wellFormed
 formed-not first k line e = rw (e, no-second)
+
+-- nor is it too long
+no-first : (a b c d : Bool) → (a && false && b && c && d) ≡ false
+no-first true b c d = refl
+no-first false b c d = refl
+
+pub formed-too-long : (first k : ℕ) (line : List ℕ) → longestLine < length line → wellFormed first k line ≡ false
+unfolding wellFormed
+formed-too-long first k line h = rw (lt-leb (length line) longestLine h, no-first)
+
+pub formed-short : (first k : ℕ) (line : List ℕ) → wellFormed first k line ≡ true → length line ≤ longestLine
+formed-short first k line h = go (leb (length line) longestLine) refl
+  where
+    go : (b : Bool) → leb (length line) longestLine ≡ b → length line ≤ longestLine
+    go true e = leb-true (length line) longestLine e
+    go false e = absurd (false≢true (sym (formed-too-long first k line (leb-false (length line) longestLine e)) ∙ h))
 
 -- a length that is not 0, and one that is
 pub length-some : (n : ℕ) → n ≢ 0 → leb 1 n ≡ true
@@ -73,12 +95,6 @@ length-none n e = lt-leb 1 n (omega arith)
 pub product-first : (w n : ℕ) → 0 < n → w * n ≡ w + w * (n - 1)
 product-first w zero h = absurd (not-suc-le-zero h)
 product-first w (suc n) h = rw (sub-one, mul-suc) (omega arith)
-
--- a line of the right form is not empty
-pub formed-long : (first k : ℕ) (line : List ℕ) → wellFormed first k line ≡ true → 0 < length line
-unfolding wellFormed
-formed-long first k [] h = let z : _≡_ {A = ℕ} 0 1 = cc in omega arith
-formed-long first k (x ∷ xs) h = omega arith
 
 -- a digit is below 16, and n digits are below 16 ^ n
 below : (b : Bool) (x y : ℕ) → cond b (x % 16) (y % 16) < 16

@@ -39,7 +39,11 @@ unfolding acceptedText refusedText
 answer-length k (Accepted n) = simp (length-append, field-length)
 answer-length k (Refused n p) = simp (length-append, field-length)
 
-event-length : (k : ℕ) (a : Answer) (rs : List Row) → length (eventText k a rs) ≡ answerLength a + 36 * length rs
+pub answer-most : (a : Answer) → answerLength a ≤ 47
+answer-most (Accepted n) = omega arith
+answer-most (Refused n p) = omega arith
+
+pub event-length : (k : ℕ) (a : Answer) (rs : List Row) → length (eventText k a rs) ≡ answerLength a + 36 * length rs
 unfolding eventText
 event-length k a rs = length-append (answerText k a) (each rowText rs) ∙ rw (answer-length k a, rows-length rs)
 
@@ -47,7 +51,7 @@ label-length : (cut : Bool) → length (lastLabel cut) ≡ 11
 label-length true = refl
 label-length false = refl
 
-last-length : (cut : Bool) (a r : ℕ) → length (lastText cut a r) ≡ 37
+pub last-length : (cut : Bool) (a r : ℕ) → length (lastText cut a r) ≡ 37
 unfolding lastText
 last-length cut a r = simp (length-append, field-length, label-length)
 

@@ -1,6 +1,6 @@
 -- What comes next of an input that is listed while it comes in.
 -- Assumes nothing.
-use Prim.Native.Nat.{ℕ, suc, _≤_}
+use Prim.Native.Nat.{ℕ, suc}
 use mathlib.Core.Bool.{Bool, cond, _||_}
 use mathlib.Core.List.{List, [], _∷_}
 use lib.Dec.{eqb, leb, ltb}
@@ -25,11 +25,3 @@ nextOf rest ended lines =
     (cond (ltb longestLine (firstLine rest))
     (Long (firstLine rest))
     (cond (ended || ltb (firstLine rest) (length rest)) (Line (firstLine rest)) More)))
-
--- a line lies within the characters (it follows from `nextOf`, and callers slice by it)
-abbrev pub WithinRest : ℕ → Next → Type 0
-WithinRest n (Line k) = k ≤ n
-WithinRest n (Long k) = k ≤ n
-WithinRest n More = Unit {0}
-WithinRest n End = Unit {0}
-WithinRest n Cut = Unit {0}

@@ -1,3 +1,4 @@
+pub mod Example
 pub mod Input
 pub mod Lengths
 pub mod Listing

@@ -1,9 +1,7 @@
 // What comes next of an input that is listed while it comes in.
 use crate::Next;
-ghost use Prim.Native.Nat.{_≤_};
 ghost use mathlib.Core.Path.{_≡_};
-ghost use lib.ListN.{length};
-ghost use Rattle.listing.specs.Input.{firstLine, nextOf, WithinRest};
+ghost use Rattle.listing.specs.Input.{firstLine, nextOf};
 
 // The most characters of a line, and the most lines that are listed.
 const LONGEST_LINE: usize = 20481;
@@ -13,7 +11,6 @@ const MOST_LINES: u64 = 1000000;
 // What comes next of `rest`, where the input has ended or goes on, after so many lines.
 pub fn next_line(rest: &[u8], ended: bool, lines: u64) -> Next
     ensures { λ r. ⌜ r ≡ nextOf (now (rest .entry)) ended lines ⌝ }
-    ensures { λ r. ⌜ WithinRest (length (now (rest .entry))) r ⌝ }
 {
     if rest.len() == 0 {
         if ended {
@@ -39,7 +36,7 @@ pub fn next_line(rest: &[u8], ended: bool, lines: u64) -> Next
 
 // How many characters stand before the first line feed, or all where there is none.
 fn first_line(rest: &[u8]) -> usize
-    ensures { λ r. ⌜ (r ≡ firstLine (now (rest .entry))) × (r ≤ length (now (rest .entry))) ⌝ }
+    ensures { λ r. ⌜ r ≡ firstLine (now (rest .entry)) ⌝ }
 {
     let mut i = 0;
     while i < rest.len() {

@@ -17,14 +17,14 @@ abbrev μ-loop : tie.MeasureT-loop
 
 returns : tie.Need-returns Inv-loop μ-loop
 returns c =
-    (sym (c .before .before .before .loop .inv .1 ∙ rw (first-here (c .before .before .before .before .args .rest .now) (c .before .before .before .loop .i) (search needs) (c .if1 .taken), add-zero)), search needs)
+    sym (c .before .before .before .loop .inv .1 ∙ rw (first-here (c .before .before .before .before .args .rest .now) (c .before .before .before .loop .i) (search needs) (c .if1 .taken), add-zero))
 
 loop-again : tie.Need-loop-again Inv-loop μ-loop
 loop-again c = (search needs, c .before .before .before .loop .inv .1 ∙ first-on _ _ (search needs) (c .if1 .left))
 
 returns-2 : tie.Need-returns-2 Inv-loop μ-loop
 returns-2 c =
-    (sym (c .before .loop .inv .1 ∙ rw (first-none (c .before .before .args .rest .now) (c .before .loop .i) (search needs), add-zero)), search needs)
+    sym (c .before .loop .inv .1 ∙ rw (first-none (c .before .before .args .rest .now) (c .before .loop .i) (search needs), add-zero))
 
 pub first-line-spec : {M : Type 1} → statement M
 first-line-spec =

@@ -8,31 +8,31 @@ use Rattle.listing.proofs.input.next_line.Tie as tie
 
 returns : tie.Need-returns
 unfolding nextOf
-returns c = (simp (eq-eqb _ _ (c .before .if1 .taken), c .if2 .taken), tt)
+returns c = simp (eq-eqb _ _ (c .before .if1 .taken), c .if2 .taken)
 
 returns-2 : tie.Need-returns-2
 unfolding nextOf
-returns-2 c = (simp (eq-eqb _ _ (c .before .if1 .taken), c .if2 .left), tt)
+returns-2 c = simp (eq-eqb _ _ (c .before .if1 .taken), c .if2 .left)
 
 returns-3 : tie.Need-returns-3
 unfolding nextOf
-returns-3 c = (simp (ne-eqb _ _ (c .before .if1 .left), le-leb _ _ (c .if3 .taken)), tt)
+returns-3 c = simp (ne-eqb _ _ (c .before .if1 .left), le-leb _ _ (c .if3 .taken))
 
 returns-4 : tie.Need-returns-4
 unfolding nextOf
-returns-4 c = (simp (ne-eqb _ _ (c .before .before .before .if1 .left), lt-leb _ _ (c .before .before .if3 .left), sym (c .before .first-line .ensures .0), lt-ltb _ _ (c .if4 .taken)), c .before .first-line .ensures .1)
+returns-4 c = simp (ne-eqb _ _ (c .before .before .before .if1 .left), lt-leb _ _ (c .before .before .if3 .left), sym (c .before .first-line .ensures), lt-ltb _ _ (c .if4 .taken))
 
 returns-5 : tie.Need-returns-5
 unfolding nextOf
-returns-5 c = (simp (ne-eqb _ _ (c .before .before .before .before .if1 .left), lt-leb _ _ (c .before .before .before .if3 .left), sym (c .before .before .first-line .ensures .0), le-ltb _ _ (c .before .if4 .left), c .if5 .taken), c .before .before .first-line .ensures .1)
+returns-5 c = simp (ne-eqb _ _ (c .before .before .before .before .if1 .left), lt-leb _ _ (c .before .before .before .if3 .left), sym (c .before .before .first-line .ensures), le-ltb _ _ (c .before .if4 .left), c .if5 .taken)
 
 returns-6 : tie.Need-returns-6
 unfolding nextOf
-returns-6 c = (simp (ne-eqb _ _ (c .before .before .before .before .before .if1 .left), lt-leb _ _ (c .before .before .before .before .if3 .left), sym (c .before .before .before .first-line .ensures .0), le-ltb _ _ (c .before .before .if4 .left), c .before .if5 .left, lt-ltb _ _ (c .if6 .taken)), c .before .before .before .first-line .ensures .1)
+returns-6 c = simp (ne-eqb _ _ (c .before .before .before .before .before .if1 .left), lt-leb _ _ (c .before .before .before .before .if3 .left), sym (c .before .before .before .first-line .ensures), le-ltb _ _ (c .before .before .if4 .left), c .before .if5 .left, lt-ltb _ _ (c .if6 .taken))
 
 returns-7 : tie.Need-returns-7
 unfolding nextOf
-returns-7 c = (simp (ne-eqb _ _ (c .before .before .before .before .before .if1 .left), lt-leb _ _ (c .before .before .before .before .if3 .left), sym (c .before .before .before .first-line .ensures .0), le-ltb _ _ (c .before .before .if4 .left), c .before .if5 .left, le-ltb _ _ (c .if6 .left)), tt)
+returns-7 c = simp (ne-eqb _ _ (c .before .before .before .before .before .if1 .left), lt-leb _ _ (c .before .before .before .before .if3 .left), sym (c .before .before .before .first-line .ensures), le-ltb _ _ (c .before .before .if4 .left), c .before .if5 .left, le-ltb _ _ (c .if6 .left))
 
 pub next-line-spec : {M : Type 1} → statement M
 next-line-spec =

@@ -1,0 +1,73 @@
+-- Where a run of the program stands, and what each of its steps keeps. (The program's functions are private; what they rest on is public in `listing`.)
+-- Assumes nothing.
+use Prim.Native.Nat.{ℕ, _+_, _-_, _≤_}
+use mathlib.Core.Path.{_≡_}
+use mathlib.Core.Bool.{Bool, true, false, cond}
+use mathlib.Core.List.{List, [], _++_}
+use lib.Dec.{eqb}
+use lib.ListN.{length, take, drop}
+use Rattle.event.specs.declared.Answer.{Answer}
+use Rattle.event.specs.declared.Answer.the-variants.{Accepted, Refused}
+use Rattle.event.specs.Outcome.{defaultOrder, answerOf, given}
+use Rattle.hex_line.specs.Text.{Placed}
+use Rattle.listing.specs.declared.Next.{Next}
+use Rattle.listing.specs.declared.Next.the-variants.{Line, Long, More, End, Cut}
+use Rattle.listing.specs.Listing.{linesOf, lineRows, acceptedIn, refusedIn, listFrom}
+use Rattle.listing.specs.Text.{eventText}
+use Rattle.list_events.specs.declared.Run.{Run}
+
+-- a run within an input buffer of n characters and a text buffer of m
+pub record Inside (n m : ℕ) (run : Run) : Type 0 where
+  pub begins : run .from ≤ run .end
+  pub ends : run .end ≤ n
+  pub text : run .at ≤ m
+  pub lines : run .accepted + run .refused ≤ 1000000
+
+-- the buffers for a line's words and rows: room for every line that is not too long, and for as many rows as words
+abbrev pub Rooms : (words longwords rows : List ℕ) → Type 0
+Rooms words longwords rows = (length words ≡ 4096) × (length longwords ≡ 2275) × (length rows ≡ 16384)
+
+-- the characters that were read and are not listed yet
+abbrev pub restOf : Run → List ℕ → List ℕ
+restOf run input = take (run .end - run .from) (drop (run .from) input)
+
+-- the place behind a line of k characters and its line feed, which the last may lack
+abbrev pub behind : Run → ℕ → ℕ
+behind run k = cond (eqb (run .end - run .from) k) (run .end) (run .from + k + 1)
+
+abbrev pub countOf : Answer → ℕ
+countOf (Accepted n) = n
+countOf (Refused n p) = 0
+
+abbrev pub acceptedOf : Answer → ℕ
+acceptedOf (Accepted n) = 1
+acceptedOf (Refused n p) = 0
+
+-- a line is listed: its text stands behind what was not written yet, and it is counted
+pub record LineListed (line : List ℕ) (next : ℕ) (run : Run) (text : List ℕ) (run′ : Run) (text′ : List ℕ) : Type 0 where
+  pub placed : Placed text (run .at) (eventText (run .accepted + run .refused + 1) (answerOf (lineRows defaultOrder line)) (given (lineRows defaultOrder line))) (run′ .at) text′
+  pub from : run′ .from ≡ next
+  pub end : run′ .end ≡ run .end
+  pub accepted : run′ .accepted ≡ run .accepted + acceptedIn (lineRows defaultOrder line)
+  pub refused : run′ .refused ≡ run .refused + refusedIn (lineRows defaultOrder line)
+
+-- the text that is not written yet, and what is still to be listed of these characters
+abbrev pub textOf : Run → (text rest : List ℕ) → List ℕ
+textOf run text rest = take (run .at) text ++ listFrom defaultOrder (run .accepted) (run .refused) (linesOf rest)
+
+-- Whatever comes in later, and nothing where the input has ended: all that was to be written is still to be written.
+abbrev pub Kept : (ended : Bool) (input : List ℕ) (run : Run) (text : List ℕ) (run′ : Run) (text′ : List ℕ) → Type 0
+Kept ended input run text run′ text′ =
+    (later : List ℕ) → (ended ≡ true → later ≡ []) → textOf run text (restOf run input ++ later) ≡ textOf run′ text′ (restOf run′ input ++ later)
+
+-- a listing ends where neither a line nor more of the input is to come
+abbrev pub ends : Next → Bool
+ends (Line k) = false
+ends (Long k) = true
+ends More = false
+ends End = true
+ends Cut = true
+
+-- All that was to be written stands in the first n characters of the text.
+abbrev pub RestPut : (ended : Bool) (input : List ℕ) (run : Run) (text : List ℕ) (n : ℕ) (text′ : List ℕ) → Type 0
+RestPut ended input run text n text′ = (later : List ℕ) → (ended ≡ true → later ≡ []) → take n text′ ≡ textOf run text (restOf run input ++ later)

@@ -1,0 +1,182 @@
+// The lines that were read, listed as text in a lent buffer.
+use crate::Listed;
+use crate::Run;
+use event::Answer;
+use event::default_order;
+use listing::Next;
+ghost use Prim.Native.Nat.{_+_, _-_, _*_, _/_, _≤_, _<_};
+ghost use mathlib.Core.Path.{_≡_};
+ghost use lib.ListN.{length, take, drop};
+ghost use Rattle.event.specs.Writing.{rowsIn};
+ghost use Rattle.hex_line.specs.Text.{Placed};
+ghost use Rattle.listing.specs.Input.{nextOf};
+ghost use Rattle.listing.specs.Lengths.{answerLength};
+ghost use Rattle.listing.specs.Text.{eventText, lastText};
+ghost use Rattle.list_events.specs.Run.{Inside, Rooms, restOf, behind, countOf, acceptedOf, LineListed, Kept, ends, RestPut};
+ghost use mathlib.Core.Bool.{true};
+
+// The most characters that a line's answer and rows take: those of a refusal, and 4,096 rows of 36 each.
+const MOST_TEXT: usize = 147503;
+
+// Lists whole lines while there is room for their text, and says what comes next.
+pub(crate) fn list_lines(
+    input: &[u8],
+    ended: bool,
+    words: &mut [u16],
+    longwords: &mut [u32],
+    rows: &mut [u32],
+    text: &mut [u8],
+    run: Run,
+) -> Listed
+    requires { ⌜ Inside (length (now input)) (length (now text)) run ⌝ }
+    requires { ⌜ Rooms (now words) (now longwords) (now rows) ⌝ }
+    ensures { λ r. ⌜ Inside (length (now (input .entry))) (length (now (text .entry))) (r .run) ⌝ }
+    ensures { λ r. ⌜ r .next ≡ nextOf (restOf (r .run) (now (input .entry))) ended (r .run .accepted + r .run .refused) ⌝ }
+    ensures { λ r. ⌜ Kept ended (now (input .entry)) run (now (text .entry)) (r .run) (now (text .exit)) ⌝ }
+{
+    let mut listed = run;
+    loop {
+        let next = next_line(input, ended, listed);
+        let Next::Line(count) = next else {
+            return Listed { run: listed, next };
+        };
+        if text.len() - listed.at < MOST_TEXT {
+            return Listed { run: listed, next };
+        }
+        listed = list_line(input, count, words, longwords, rows, text, listed);
+    }
+}
+
+fn next_line(input: &[u8], ended: bool, run: Run) -> Next
+    requires { ⌜ Inside (length (now input)) (run .at) run ⌝ }
+    ensures { λ r. ⌜ r ≡ nextOf (restOf run (now (input .entry))) ended (run .accepted + run .refused) ⌝ }
+{
+    let from = run.from;
+    let end = run.end;
+    listing::next_line(&input[from..end], ended, run.accepted + run.refused)
+}
+
+// Lists the next `count` characters as a line, and goes on behind its line feed.
+pub(crate) fn list_line(
+    input: &[u8],
+    count: usize,
+    words: &mut [u16],
+    longwords: &mut [u32],
+    rows: &mut [u32],
+    text: &mut [u8],
+    run: Run,
+) -> Run
+    requires { ⌜ Inside (length (now input)) (length (now text)) run ⌝ }
+    requires { ⌜ (run .from < run .end) × (count ≤ run .end - run .from) × (run .accepted + run .refused < 1000000) × (run .at + 147503 ≤ length (now text)) ⌝ }
+    requires { ⌜ Rooms (now words) (now longwords) (now rows) ⌝ }
+    ensures { λ r. ⌜ Inside (length (now (input .entry))) (length (now (text .entry))) r ⌝ }
+    ensures { λ r. ⌜ LineListed (take count (drop (run .from) (now (input .entry)))) (behind run count) run (now (text .entry)) r (now (text .exit)) ⌝ }
+{
+    let from = run.from;
+    let stop = from + count;
+    let answer = listing::line_rows(&input[from..stop], default_order(), words, longwords, rows);
+    let elements = count_of(answer) * 4;
+    let at = put_event(text, run, answer, &rows[..elements]);
+    let accepted = accepted_of(answer);
+    Run {
+        from: behind_line(run, count),
+        end: run.end,
+        at,
+        accepted: run.accepted + accepted,
+        refused: run.refused + (1 - accepted),
+    }
+}
+
+// The place behind the line and its line feed, which the last line may lack.
+fn behind_line(run: Run, count: usize) -> usize
+    requires { ⌜ (run .from ≤ run .end) × (count ≤ run .end - run .from) ⌝ }
+    ensures { λ r. ⌜ r ≡ behind run count ⌝ }
+{
+    if run.end - run.from == count {
+        return run.end;
+    }
+    run.from + count + 1
+}
+
+// The rows of an answer.
+fn count_of(answer: Answer) -> usize
+    ensures { λ r. ⌜ r ≡ countOf answer ⌝ }
+{
+    let Answer::Accepted(count) = answer else {
+        return 0;
+    };
+    count
+}
+
+// 1 for an accepted line, 0 for a refused one.
+fn accepted_of(answer: Answer) -> u64
+    ensures { λ r. ⌜ (r ≡ acceptedOf answer) × (r ≤ 1) ⌝ }
+{
+    let Answer::Accepted(_) = answer else {
+        return 0;
+    };
+    1
+}
+
+// Puts the answer and the rows behind the text that is not written yet, and answers where it ends.
+fn put_event(text: &mut [u8], run: Run, answer: Answer, rows: &[u32]) -> usize
+    requires { ⌜ run .accepted + run .refused < 1000000 ⌝ }
+    requires { ⌜ run .at + (answerLength answer + 36 * (length (now rows) / 4)) ≤ length (now text) ⌝ }
+    ensures { λ r. ⌜ Placed (now (text .entry)) (run .at) (eventText (run .accepted + run .refused + 1) answer (rowsIn (now (rows .entry)))) r (now (text .exit)) ⌝ }
+{
+    let at = run.at;
+    let number = run.accepted + run.refused + 1;
+    at + listing::put_event(number, answer, rows, &mut text[at..])
+}
+
+// A listing ends here.
+pub(crate) fn is_end(next: Next) -> bool
+    ensures { λ r. ⌜ r ≡ ends next ⌝ }
+{
+    match next {
+        Next::Line(_) => false,
+        Next::Long(_) => true,
+        Next::More => false,
+        Next::End => true,
+        Next::Cut => true,
+    }
+}
+
+// Puts all that is left of a listing that ends here, and answers where it ends. (A line, or more of the input, never comes next here.)
+pub(crate) fn put_rest(
+    input: &[u8],
+    ended: bool,
+    next: Next,
+    words: &mut [u16],
+    longwords: &mut [u32],
+    rows: &mut [u32],
+    text: &mut [u8],
+    run: Run,
+) -> usize
+    requires { ⌜ Inside (length (now input)) (length (now text)) run ⌝ }
+    requires { ⌜ (next ≡ nextOf (restOf run (now input)) ended (run .accepted + run .refused)) × (ends next ≡ true) ⌝ }
+    requires { ⌜ Rooms (now words) (now longwords) (now rows) ⌝ }
+    requires { ⌜ run .at + 147540 ≤ length (now text) ⌝ }
+    ensures { λ r. ⌜ r ≤ length (now (text .entry)) ⌝ }
+    ensures { λ r. ⌜ RestPut ended (now (input .entry)) run (now (text .entry)) r (now (text .exit)) ⌝ }
+{
+    match next {
+        Next::Long(count) => {
+            let last = list_line(input, count, words, longwords, rows, text, run);
+            put_last(text, last, true)
+        }
+        Next::Cut => put_last(text, run, true),
+        Next::End => put_last(text, run, false),
+        Next::Line(_) => put_last(text, run, false),
+        Next::More => put_last(text, run, false),
+    }
+}
+
+fn put_last(text: &mut [u8], run: Run, cut: bool) -> usize
+    requires { ⌜ run .at + 37 ≤ length (now text) ⌝ }
+    ensures { λ r. ⌜ r ≡ run .at + 37 ⌝ }
+    ensures { λ r. ⌜ Placed (now (text .entry)) (run .at) (lastText cut (run .accepted) (run .refused)) r (now (text .exit)) ⌝ }
+{
+    let at = run.at;
+    at + listing::put_last(cut, run.accepted, run.refused, &mut text[at..])
+}

@@ -1,0 +1,71 @@
+// Lists each hexadecimal line of standard input (document 01, 'The hexadecimal lines'), with the default stamp order. A line is listed as soon as it
+// was read, and what is listed is written before more is waited for. A write that fails ends the program at once. A read that fails ends it without a
+// last line.
+mod lines;
+mod streams;
+
+use listing::Next;
+use streams::turn;
+ghost use Prim.Native.Nat.{_≤_};
+ghost use mathlib.Core.Path.{_≡_};
+ghost use lib.ListN.{length};
+ghost use Rattle.list_events.specs.Run.{Rooms};
+
+// Where a run stands: input[from..end] was read and is not listed yet, text[..at] is not written yet, and so many lines were listed.
+struct Run {
+    from: usize,
+    end: usize,
+    at: usize,
+    accepted: u64,
+    refused: u64,
+}
+
+// A run, and what comes next of its input.
+struct Listed {
+    run: Run,
+    next: Next,
+}
+
+// A run, and whether it goes on.
+struct Turn {
+    run: Run,
+    ended: bool,
+    goes_on: bool,
+}
+
+fn list(
+    input: &mut [u8],
+    words: &mut [u16],
+    longwords: &mut [u32],
+    rows: &mut [u32],
+    text: &mut [u8],
+)
+    requires { ⌜ Rooms (now words) (now longwords) (now rows) ⌝ }
+    requires { ⌜ 147540 ≤ length (now text) ⌝ }
+{
+    let mut state = Turn {
+        run: Run {
+            from: 0,
+            end: 0,
+            at: 0,
+            accepted: 0,
+            refused: 0,
+        },
+        ended: false,
+        goes_on: true,
+    };
+    let mut turns = u64::MAX;
+    while turns > 0 && state.goes_on {
+        turns -= 1;
+        state = turn(input, words, longwords, rows, text, state);
+    }
+}
+
+fn main() {
+    let mut input = [0u8; 262144];
+    let mut words = [0u16; 4096];
+    let mut longwords = [0u32; 2275];
+    let mut rows = [0u32; 16384];
+    let mut text = [0u8; 262144];
+    list(&mut input, &mut words, &mut longwords, &mut rows, &mut text);
+}
