@@ -1,5 +1,5 @@
 pub mod Tests
+pub mod CopyLaws
 pub mod LineLaws
 pub mod RowLaws
-pub mod TextLaws
 pub mod WordLaws

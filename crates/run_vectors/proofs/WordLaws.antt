@@ -10,7 +10,7 @@ use lib.Seq.{drop-cons, take-all}
 use borrow.Author.Tests.{lt-ltb, le-ltb}
 use Rattle.run_vectors.specs.Vectors.{allWords16}
 use Rattle.run_vectors.specs.Widths.{lowWords, overWords}
-use Rattle.run_vectors.proofs.TextLaws.{copy-next}
+use Rattle.run_vectors.proofs.CopyLaws.{copy-next}
 
 -- the next element is too wide; it is a word; there is none
 module _ (elements : List ℕ) (i : ℕ) where

@@ -1,7 +1,7 @@
 // The text not yet written, in a lent buffer up to `at`, and its writing to standard output.
 use crate::text::put_answer;
-use crate::text::put_bytes;
 use crate::text::put_run;
+use crate::text::put_text;
 use event::Answer;
 use libc::STDOUT_FILENO;
 ghost use Prim.Native.Nat.{_+_, _<_, _≤_};
@@ -31,7 +31,7 @@ pub(crate) fn put_malformed(text: &mut [u8], at: usize) -> usize
     ensures { λ r. ⌜ r ≤ length (now (text .entry)) ⌝ }
 {
     let start = make_room(text, at);
-    put_bytes(text, start, b"malformed\n")
+    put_text(text, start, b"malformed\n")
 }
 
 // The answer, and the lent elements as runs of equal elements.

@@ -1,9 +1,10 @@
 // Text put into a lent buffer: each function answers where it ends.
 use event::Answer;
-ghost use Prim.Native.Nat.{_+_, _<_, _≤_};
+ghost use Prim.Native.Nat.{_+_, _≤_};
 ghost use mathlib.Core.Path.{_≡_};
 ghost use lib.ListN.{length};
-ghost use Rattle.run_vectors.specs.Text.{glyphOf, hexOf, Placed, fieldText, runText, answerText, refusalText};
+ghost use Rattle.hex_line.specs.Text.{hexOf, Placed};
+ghost use Rattle.run_vectors.specs.Text.{fieldText, runText, answerText, refusalText};
 
 // `accepted COUNT` or `refused NUMBER place PLACE`.
 pub(crate) fn put_answer(text: &mut [u8], at: usize, answer: Answer) -> usize
@@ -15,7 +16,7 @@ pub(crate) fn put_answer(text: &mut [u8], at: usize, answer: Answer) -> usize
         return put_refusal(text, at, answer);
     };
     let end = put_field(text, at, b"accepted ", count as u64);
-    put_bytes(text, end, b"\n")
+    put_text(text, end, b"\n")
 }
 
 fn put_refusal(text: &mut [u8], at: usize, answer: Answer) -> usize
@@ -28,7 +29,7 @@ fn put_refusal(text: &mut [u8], at: usize, answer: Answer) -> usize
     };
     let middle = put_field(text, at, b"refused ", number as u64);
     let end = put_field(text, middle, b" place ", place as u64);
-    put_bytes(text, end, b"\n")
+    put_text(text, end, b"\n")
 }
 
 // `REPEAT WORD`.
@@ -37,9 +38,9 @@ pub(crate) fn put_run(text: &mut [u8], at: usize, times: usize, word: u32) -> us
     ensures { λ r. ⌜ r ≡ at + 18 ⌝ }
     ensures { λ r. ⌜ Placed (now (text .entry)) at (runText times word) r (now (text .exit)) ⌝ }
 {
-    let middle = put_hex(text, at, times as u64);
+    let middle = put_number(text, at, times as u64);
     let end = put_field(text, middle, b" ", word as u64);
-    put_bytes(text, end, b"\n")
+    put_text(text, end, b"\n")
 }
 
 fn put_field(text: &mut [u8], at: usize, label: &[u8], number: u64) -> usize
@@ -47,44 +48,25 @@ fn put_field(text: &mut [u8], at: usize, label: &[u8], number: u64) -> usize
     ensures { λ r. ⌜ r ≡ at + length (now (label .entry)) + 8 ⌝ }
     ensures { λ r. ⌜ Placed (now (text .entry)) at (fieldText (now (label .entry)) number) r (now (text .exit)) ⌝ }
 {
-    let end = put_bytes(text, at, label);
-    put_hex(text, end, number)
+    let end = put_text(text, at, label);
+    put_number(text, end, number)
 }
 
 // The last eight hexadecimal digits of a number.
-fn put_hex(text: &mut [u8], at: usize, number: u64) -> usize
+fn put_number(text: &mut [u8], at: usize, number: u64) -> usize
     requires { ⌜ at + 8 ≤ length (now text) ⌝ }
     ensures { λ r. ⌜ r ≡ at + 8 ⌝ }
     ensures { λ r. ⌜ Placed (now (text .entry)) at (hexOf 8 number) r (now (text .exit)) ⌝ }
 {
-    let mut i = 8;
-    let mut rest = number;
-    while i > 0 {
-        i -= 1;
-        text[at + i] = glyph(rest % 16);
-        rest /= 16;
-    }
+    hex_line::put_digits(text, at, number);
     at + 8
 }
 
-pub(crate) fn put_bytes(text: &mut [u8], at: usize, bytes: &[u8]) -> usize
+pub(crate) fn put_text(text: &mut [u8], at: usize, bytes: &[u8]) -> usize
     requires { ⌜ at + length (now bytes) ≤ length (now text) ⌝ }
+    ensures { λ r. ⌜ r ≡ at + length (now (bytes .entry)) ⌝ }
     ensures { λ r. ⌜ Placed (now (text .entry)) at (now (bytes .entry)) r (now (text .exit)) ⌝ }
 {
-    let mut i = 0;
-    while i < bytes.len() {
-        text[at + i] = bytes[i];
-        i += 1;
-    }
-    at + i
-}
-
-fn glyph(digit: u64) -> u8
-    requires { ⌜ digit < 16 ⌝ }
-    ensures { λ r. ⌜ r ≡ glyphOf digit ⌝ }
-{
-    if digit < 10 {
-        return 48 + digit as u8;
-    }
-    87 + digit as u8
+    hex_line::put_bytes(text, at, bytes);
+    at + bytes.len()
 }

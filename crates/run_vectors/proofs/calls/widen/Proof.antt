@@ -5,7 +5,7 @@ use mathlib.Core.Path.{_≡_, refl, _∙_}
 use mathlib.Core.List.{_++_}
 use native.Mathlib.Omega.{arith}
 use lib.ListN.{length, take, drop, length-set}
-use Rattle.run_vectors.proofs.TextLaws.{copy-next, copied}
+use Rattle.run_vectors.proofs.CopyLaws.{copy-next, copied}
 use Rattle.run_vectors.proofs.calls.widen.Statement.{statement}
 use Rattle.run_vectors.proofs.calls.widen.Tie as tie
 

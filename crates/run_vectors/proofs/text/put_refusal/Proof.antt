@@ -1,7 +1,7 @@
 -- `text::put_refusal` meets its contract. Assumes nothing.
 use borrow.Author.Needs.{needs}
 use Rattle.run_vectors.specs.Text.{refusalText}
-use Rattle.run_vectors.proofs.TextLaws.{placed-none, placed-then}
+use Rattle.hex_line.proofs.TextLaws.{placed-none, placed-then}
 use Rattle.run_vectors.proofs.text.put_refusal.Statement.{statement}
 use Rattle.run_vectors.proofs.text.put_refusal.Tie as tie
 
@@ -14,7 +14,7 @@ unfolding refusalText
 returns-2 c = (
   search needs,
   rw (c .before .before .before .before .before .before .before .before .before .before .before .before .before .before .before .before .answer .given .1)
-      (placed-then (placed-then (c .before .before .before .before .before .before .before .before .before .before .before .before .put-field .ensures .1) (c .before .before .before .before .before .before .before .put-field2 .ensures .1)) (c .before .before .put-bytes .ensures)),
+      (placed-then (placed-then (c .before .before .before .before .before .before .before .before .before .before .before .before .put-field .ensures .1) (c .before .before .before .before .before .before .before .put-field2 .ensures .1)) (c .before .before .put-text .ensures .1)),
 )
 
 pub put-refusal-spec : {M : Type 1} → statement M

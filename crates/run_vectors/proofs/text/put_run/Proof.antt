@@ -1,7 +1,7 @@
 -- `text::put_run` meets its contract. Assumes nothing.
 use borrow.Author.Needs.{needs}
 use Rattle.run_vectors.specs.Text.{runText}
-use Rattle.run_vectors.proofs.TextLaws.{placed-then}
+use Rattle.hex_line.proofs.TextLaws.{placed-then}
 use Rattle.run_vectors.proofs.text.put_run.Statement.{statement}
 use Rattle.run_vectors.proofs.text.put_run.Tie as tie
 
@@ -9,7 +9,7 @@ returns : tie.Need-returns
 unfolding runText
 returns c = (
   search needs,
-  placed-then (placed-then (c .before .before .before .before .before .before .before .before .before .before .before .before .put-hex .ensures .1) (c .before .before .before .before .before .before .before .put-field .ensures .1)) (c .before .before .put-bytes .ensures),
+  placed-then (placed-then (c .before .before .before .before .before .before .before .before .before .before .before .before .put-number .ensures .1) (c .before .before .before .before .before .before .before .put-field .ensures .1)) (c .before .before .put-text .ensures .1),
 )
 
 pub put-run-spec : {M : Type 1} → statement M
