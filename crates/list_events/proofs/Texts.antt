@@ -6,9 +6,9 @@ use native.Mathlib.Omega.{arith}
 use mathlib.Core.Path.{_≡_, sym, ap, _∙_}
 use mathlib.Core.List.{List, [], _∷_, _++_, append-assoc}
 use lib.ListN.{length, getD, set, take, drop, length-drop, length-take, length-append}
-use lib.Seq.{take-at, take-suc, drop-cons, set-at, getD-drop, getD-append-add, sets-eq, drop-drop, length-take-le}
+use lib.Seq.{take-at, take-take, take-suc, drop-cons, set-at, getD-drop, getD-append-add, sets-eq, drop-drop, length-take-le}
 use borrow.Author.Tests.{le-leb}
-use borrow.Rule.Slice.PartMut.{putMid}
+use borrow.Rule.Slice.PartMut.{putMid, take-put}
 use Rattle.event.specs.Outcome.{overlaid}
 use Rattle.event.proofs.WordStores.{part-lent, part-back}
 use Rattle.hex_line.specs.Text.{Placed}
@@ -53,3 +53,12 @@ move-next b from n i h f =
     ∙ sym (getD-drop from b i 0) in
     let k : i < length (drop from b) = simp length-drop (omega arith) in
     rw (v, add-one i, take-suc (drop from b) i 0 k, drop-cons b i 0 (omega arith)) (set-at (take i (drop from b)) (getD b i 0) (drop (suc i) b) (getD (drop from b) i 0) i e ∙ sym (append-assoc (take i (drop from b)) (getD (drop from b) i 0 ∷ []) (drop (suc i) b)))
+
+-- characters that were moved to the front stay there, whatever is read behind them
+pub front-kept : (b b₁ part : List ℕ) (from n more k : ℕ) → from + n ≤ length b → b₁ ≡ take n (drop from b) ++ drop n b → length b₁ ≡ length b
+    → take n (take (n + more - 0) (drop 0 (putMid n k b₁ part))) ≡ take n (drop from b)
+front-kept b b₁ part from n more k h e l =
+    take-take n (n + more - 0) (putMid n k b₁ part) (omega arith)
+    ∙ take-put n k b₁ part (omega arith)
+    ∙ ap (take n) e
+    ∙ take-at (take n (drop from b)) (drop n b) n (length-take-le n (drop from b) (simp length-drop (omega arith)))

@@ -11,7 +11,7 @@ ghost use Prim.Native.Nat.{_+_, _-_, _≤_};
 ghost use mathlib.Core.Path.{_≡_};
 ghost use mathlib.Core.List.{_++_};
 ghost use lib.ListN.{length, take, drop};
-ghost use Rattle.list_events.specs.Run.{Inside, Rooms};
+ghost use Rattle.list_events.specs.Run.{Inside, Rooms, restOf};
 
 // Lists what was read, writes what is listed, and then reads more, or ends.
 pub(crate) fn turn(
@@ -95,10 +95,12 @@ fn stopped(run: Run) -> Turn
     }
 }
 
-// Moves the characters that are not listed yet to the front, and reads behind them. A failed read ends the run.
+// Moves the characters that are not listed yet to the front, and reads behind them, so that they stay the first of those to be listed. A failed read ends the run.
 fn refill(input: &mut [u8], run: Run) -> Turn
     requires { ⌜ Inside (length (now input)) 0 run ⌝ }
     ensures { λ r. ⌜ Inside (length (now (input .entry))) 0 (r .run) ⌝ }
+    ensures { λ r. ⌜ take (run .end - run .from) (restOf (r .run) (now (input .exit))) ≡ restOf run (now (input .entry)) ⌝ }
+    ensures { λ r. ⌜ (r .run .accepted ≡ run .accepted) × (r .run .refused ≡ run .refused) ⌝ }
 {
     let from = run.from;
     let rest = run.end - from;
