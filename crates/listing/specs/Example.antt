@@ -1,4 +1,4 @@
--- Document 01's own listing: two lines of input, and what is listed.
+-- Document 01's own listing, and one with more of its rules: what is listed of an input, letter by letter.
 -- Assumes nothing.
 use Prim.Native.Nat.{ℕ}
 use mathlib.Core.Path.{_≡_}
@@ -7,18 +7,32 @@ use Rattle.event.specs.Outcome.{defaultOrder}
 use Rattle.hex_line.specs.Text.{text}
 use Rattle.listing.specs.Listing.{listing}
 
-abbrev input : List ℕ
-input = text "S 000e 5800 0005 0006 5803 1234 0000 0001 0000 0005 5804 0007 0000 0000\n" ++ text "S 0001\n"
+abbrev good : List ℕ
+good = text "S 000e 5800 0005 0006 5803 1234 0000 0001 0000 0005 5804 0007 0000 0000\n"
 
-abbrev listed : List ℕ
-listed =
+abbrev goodListed : List ℕ
+goodListed =
     text "event 00000001 rows 00000004\n"
     ++ text "00000001 00005803 00000000 00000000\n"
     ++ text "00000002 00000000 00000000 00011234\n"
     ++ text "00000001 00005804 00000000 00000000\n"
     ++ text "00000003 00000000 00000000 00000007\n"
-    ++ text "event 00000002 refused 00000001 place 00000000\n"
-    ++ text "end events 00000001 refused 00000001\n"
 
 abbrev pub Example : Type 0
-Example = listing defaultOrder input ≡ listed
+Example =
+    listing defaultOrder (good ++ text "S 0001\n")
+    ≡ goodListed ++ text "event 00000002 refused 00000001 place 00000000\n" ++ text "end events 00000001 refused 00000001\n"
+
+-- an empty line, an upper-case digit, a line of no words, and spoken case 10 as a last line without its line feed
+abbrev pub Counted : Type 0
+Counted =
+    listing defaultOrder (good ++ text "\n" ++ text "S 000A\n" ++ text "S\n" ++ text "F 00000200 00f717ff 01f738e1 02f70563 32000001 0000002a 34000000")
+    ≡ goodListed
+    ++ text "event 00000002 refused 0000001e place 00000000\n"
+    ++ text "event 00000003 refused 0000001e place 00000000\n"
+    ++ text "event 00000004 refused 00000001 place 00000000\n"
+    ++ text "event 00000005 rows 00000003\n"
+    ++ text "00000010 000017ff 000038e1 00000563\n"
+    ++ text "00000011 00000006 00000001 00000000\n"
+    ++ text "00000012 00000006 00000000 0000002a\n"
+    ++ text "end events 00000002 refused 00000003\n"
