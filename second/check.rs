@@ -2,8 +2,8 @@
 
 use crate::base::{Order, Refusal, Row, Words};
 use crate::lines::{self, LONGEST_LINE, MOST_LINES};
-use crate::tally::Tally;
-use crate::{check_made, stored, vectors};
+use crate::tally::{Source, Tally};
+use crate::{check_made, edges_order, stored, vectors};
 
 const M: &str = "S 000e 5800 0005 0006 5803 1234 0000 0001 0000 0005 5804 0007 0000 0000";
 const CASE_10: &str = "F 00000200 00f717ff 01f738e1 02f70563 32000001 0000002a 34000000";
@@ -21,6 +21,7 @@ pub fn run() -> Result<(), String> {
     check_listing()?;
     check_spoken()?;
     check_lines()?;
+    check_orders()?;
     check_stored()?;
     check_made::run()?;
     println!("all checks hold");
@@ -115,6 +116,15 @@ fn check_lines() -> Result<(), String> {
     Ok(())
 }
 
+/// Events that break two rules at once get the refusal that comes first.
+fn check_orders() -> Result<(), String> {
+    for (refusal, words) in edges_order::events() {
+        let came = lines::rows_of(&words, Order::Crossed);
+        ensure(came == Err(refusal), &format!("{refusal:?}, not {came:?}, for {words:x?}"))?;
+    }
+    Ok(())
+}
+
 /// The stored inputs stay in their limits and meet every refusal that they can.
 fn check_stored() -> Result<(), String> {
     let (line_text, vector_text) = (stored::lines(), stored::vectors());
@@ -124,12 +134,16 @@ fn check_stored() -> Result<(), String> {
     let mut tally = Tally::new();
     let mut note = |words: Option<&Words>, answer| tally.add_line(words, answer);
     lines::list(&line_text, Order::Crossed, &mut Vec::new(), &mut note);
-    ensure(tally.missing() == [12, 20, 21, 22, 23, 24], "the stored lines meet 1 to 11 and 30")?;
+    ensure_met("lines", &tally.missing(&[Source::Line]))?;
     let mut tally = Tally::new();
     let text = String::from_utf8(vector_text).map_err(|error| error.to_string())?;
     for vector in vectors::parse(&text)? {
         let answer = vector.push_answer(&mut Vec::new());
         tally.add_call(vector.call, answer);
     }
-    ensure(tally.missing() == [30], "the stored vectors meet 1 to 12 and 20 to 24")
+    ensure_met("vectors", &tally.missing(&[Source::Reading, Source::Writing]))
+}
+
+fn ensure_met(what: &str, missing: &[String]) -> Result<(), String> {
+    ensure(missing.is_empty(), &format!("not met by the stored {what}: {}", missing.join("; ")))
 }

@@ -5,15 +5,16 @@ use crate::cases::{self, Case};
 use crate::child::{self, Outcome};
 use crate::damage_line;
 use crate::difference;
-use crate::lines::{self, MOST_LINES};
+use crate::limits;
+use crate::lines;
 use crate::rng::Rng;
-use crate::tally::Tally;
+use crate::tally::{Tally, SOURCES};
 
 /// A batch ends when it has so many events or so many bytes of vectors. One event adds at most
 /// two vectors of some 190,000 bytes, so the input stays below 1,048,576 bytes.
 const BATCH_EVENTS: usize = 1000;
 const BATCH_BYTES: usize = 600_000;
-/// From so many events on, each wanted refusal must be met and the line limit is tried.
+/// From so many events on, each wanted refusal must be met and the limits are tried.
 const LONG_RUN: usize = 10_000;
 
 pub struct Settings {
@@ -44,12 +45,12 @@ pub fn run(settings: &Settings) -> Result<(), String> {
         done += batch.cases.len();
     }
     if settings.events >= LONG_RUN {
-        compare_line_limit(settings)?;
+        compare_limits(settings)?;
     }
     print!("{}", tally.report());
-    let missing = tally.missing();
+    let missing = tally.missing(&SOURCES);
     if settings.events >= LONG_RUN && !missing.is_empty() {
-        return Err(format!("refusals not met: {missing:?}"));
+        return Err(format!("not met: {}", missing.join("; ")));
     }
     println!("{done} events, no difference");
     Ok(())
@@ -156,15 +157,12 @@ fn judge(
     Err(format!("{program}: {trouble}\n{}\n{around}\n{kept}", describe(line)))
 }
 
-/// Lines `S` up to the line limit, one more that is empty, and one more without line feed.
-fn compare_line_limit(settings: &Settings) -> Result<(), String> {
-    for last in [&b""[..], b"\n", b"S"] {
-        let input = [b"S\n".repeat(MOST_LINES), last.to_vec()].concat();
+/// The inputs at the limits of the listing.
+fn compare_limits(settings: &Settings) -> Result<(), String> {
+    limits::each(&mut |what, input| {
         let running = child::start(&settings.list_events, input.clone())?;
         let mut expected = Vec::new();
         lines::list(&input, Order::Crossed, &mut expected, &mut |_, _| {});
-        let what = format!("line limit: {MOST_LINES} lines 'S', then '{}'", last.escape_ascii());
-        judge(&settings.list_events, &input, &expected, &running.finish(), |_| what.clone())?;
-    }
-    Ok(())
+        judge(&settings.list_events, &input, &expected, &running.finish(), |_| what.to_string())
+    })
 }

@@ -1,7 +1,9 @@
 //! Damage to the longwords of dialect F. Counts are often repaired afterwards.
 
 use crate::make_f::{self, Block};
-use crate::read_f::{flag, geo, EMPTY_FLAG, FOOTER_FLAG, HEADER_FLAG};
+use crate::read_f::{
+    flag, geo, DATA_FLAG, EMPTY_FLAG, FOOTER_FLAG, HEADER_FLAG, PATTERN_GEO, SCALER_GEO,
+};
 use crate::rng::Rng;
 use crate::write_f::tagged;
 
@@ -21,13 +23,13 @@ pub fn damaged(rng: &mut Rng, mut blocks: Vec<Block>) -> Vec<u32> {
     words
 }
 
-/// Blocks lost, doubled, swapped, put in, or given another GEO throughout.
+/// Blocks lost, doubled, swapped, put in, added unfinished, or given another GEO throughout.
 fn damage_blocks(rng: &mut Rng, blocks: &mut Vec<Block>) {
     if blocks.is_empty() {
         return;
     }
     let (one, other) = (rng.below(blocks.len()), rng.below(blocks.len()));
-    match rng.below(6) {
+    match rng.below(7) {
         0 => drop(blocks.remove(one)),
         1 => blocks.insert(other, blocks[one].clone()),
         2 => blocks.swap(one, other),
@@ -36,6 +38,7 @@ fn damage_blocks(rng: &mut Rng, blocks: &mut Vec<Block>) {
             let unit = rng.below(32) as u32;
             blocks.push(vec![tagged(unit, EMPTY_FLAG, 0)]);
         }
+        5 => add_unfinished(rng, blocks),
         _ => {
             let unit = rng.pick(&[5, 6, first_geo(blocks, other)]);
             for word in &mut blocks[one] {
@@ -43,6 +46,23 @@ fn damage_blocks(rng: &mut Rng, blocks: &mut Vec<Block>) {
             }
         }
     }
+}
+
+/// At the end a module of a GEO seen whose longwords are too few.
+fn add_unfinished(rng: &mut Rng, blocks: &mut Vec<Block>) {
+    let heads = blocks.iter().skip(2).filter_map(|block| block.first());
+    let mut seen: Vec<u32> = heads.map(|&word| geo(word)).collect();
+    seen.retain(|&unit| unit != SCALER_GEO && unit != PATTERN_GEO);
+    if seen.is_empty() {
+        seen.push(rng.pick(&make_f::module_geos()));
+        blocks.push(vec![tagged(seen[0], EMPTY_FLAG, 0)]);
+    }
+    let (unit, count) = (rng.pick(&seen), rng.within(1, 32));
+    let mut block = vec![tagged(unit, HEADER_FLAG, count as u32)];
+    for channel in 0..rng.below(count.min(3) + 1) as u32 {
+        block.push(tagged(unit, DATA_FLAG, channel << 16 | rng.number(16)));
+    }
+    blocks.push(block);
 }
 
 /// The GEO of a block's first longword.

@@ -13,7 +13,7 @@ pub fn smallest() -> Vec<u32> {
 }
 
 /// The smallest event with more blocks.
-fn with(blocks: &[Block]) -> Vec<u32> {
+pub fn with(blocks: &[Block]) -> Vec<u32> {
     [smallest(), blocks.concat()].concat()
 }
 
@@ -29,18 +29,18 @@ fn pattern_unit() -> Block {
 }
 
 /// A module with channels from 0 up, each datum the largest.
-fn module(geo: u32, count: u32) -> Block {
+pub fn module(geo: u32, count: u32) -> Block {
     let mut words = vec![tagged(geo, HEADER_FLAG, count)];
     words.extend((0..count).map(|channel| tagged(geo, DATA_FLAG, channel % 32 << 16 | 0x3fff)));
     words.push(tagged(geo, FOOTER_FLAG, 0xffff));
     words
 }
 
-fn empty(geo: u32) -> Block {
+pub fn empty(geo: u32) -> Block {
     vec![tagged(geo, EMPTY_FLAG, 0)]
 }
 
-fn stamp() -> Block {
+pub fn stamp() -> Block {
     smallest()[..4].to_vec()
 }
 

@@ -9,11 +9,11 @@ pub fn smallest() -> Vec<u16> {
     event_of(&[first(), second()])
 }
 
-fn first() -> Packet {
+pub fn first() -> Packet {
     packet(tags::STAMP, &[0x1234, 0, 1, 0])
 }
 
-fn second() -> Packet {
+pub fn second() -> Packet {
     packet(tags::EVENT_NUMBER, &[7, 0, 0])
 }
 

@@ -1,5 +1,5 @@
-//! An independent second reader and writer of dialects S and F, written from 01-scope.md alone,
-//! with a generator and a comparison against the project's programs.
+//! An independent second reader and writer of dialects S and F, written from documents 01 and 02
+//! and the source documents, with a generator and a comparison against the project's programs.
 
 mod base;
 mod cases;
@@ -14,7 +14,9 @@ mod damage_rows;
 mod damage_s;
 mod difference;
 mod edges_f;
+mod edges_order;
 mod edges_s;
+mod limits;
 mod lines;
 mod make_f;
 mod make_s;

@@ -4,7 +4,7 @@ use crate::base::{Order, Row, Words};
 use crate::rng::Rng;
 use crate::tags::{self, kind};
 use crate::vectors::{Call, Vector};
-use crate::{cases, damage_line, edges_f, edges_s, lines, make_s, probes, read_s};
+use crate::{cases, damage_line, edges_f, edges_order, edges_s, lines, make_s, probes, read_s};
 
 const SEED: u64 = 5803;
 const RANDOM_LINES: usize = 600;
@@ -73,6 +73,9 @@ pub fn lines() -> Vec<u8> {
     for words in [edges_f::layouts(), edges_f::flips()].concat() {
         put(&lines::line_of(&Words::F(words)));
     }
+    for (_, words) in edges_order::events() {
+        put(&lines::line_of(&words));
+    }
     for line in line_edges() {
         put(&line);
     }
@@ -101,6 +104,10 @@ fn line_edges() -> Vec<Vec<u8>> {
     lines.push(text.replace('F', "S").into_bytes());
     lines.push([good.as_slice(), b"\xff"].concat());
     lines.push(b"\x80\xfe".to_vec());
+    // Of the right length, so that the byte itself is what is refused.
+    for line in [&b"S 000\xe9"[..], b"S\xa00001", b"S \xff001", b"S 00\xb10", b"F 0000000\xff"] {
+        lines.push(line.to_vec());
+    }
     lines.push([b"F".as_slice(), &b" 00000000".repeat(2275)].concat());
     lines.push(vec![b'0'; lines::LONGEST_LINE]);
     lines
@@ -129,7 +136,8 @@ pub fn vectors() -> Vec<u8> {
     let s_flips = edges_s::flips().into_iter().map(Words::S);
     let f_flips = edges_f::flips().into_iter().map(Words::F);
     let flips = s_flips.chain(f_flips).step_by(11);
-    for words in s_readings.chain(f_readings).step_by(3).chain(flips) {
+    let both_broken = edges_order::events().into_iter().map(|(_, words)| words);
+    for words in s_readings.chain(f_readings).step_by(3).chain(flips).chain(both_broken) {
         cases::random_reading(&mut rng, &words).push_text(&mut text);
     }
     while text.len() < VECTOR_BYTES {

@@ -21,7 +21,7 @@ ReadingExact = (d : Dialect) (o : StampOrder) (ws : List ℕ) (rs : List Row) �
 abbrev pub ReadingInRoomExact : Type 0
 ReadingInRoomExact = (d : Dialect) (room : ℕ) (o : StampOrder) (ws : List ℕ) (rs : List Row) → (readingInto d room o ws ≡ done rs) ↔ (SomeEventIn d o ws rs × (length rs ≤ room))
 
--- An accepted event has no more rows than words, so room for as many rows as there are words is enough for every event.
+-- Beside the demands, for whoever lends room: an accepted event has no more rows than words, so room for as many rows as there are words is enough for every event.
 abbrev pub RowsWithinWords : Type 0
 RowsWithinWords = (d : Dialect) (o : StampOrder) (ws : List ℕ) (rs : List Row) → reading d o ws ≡ done rs → length rs ≤ length ws
 

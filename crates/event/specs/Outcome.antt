@@ -1,4 +1,4 @@
--- The outcome of a reading (rows) or a writing (words), and how a lent buffer and the answer follow from it.
+-- The outcome of a reading (rows), a writing or a line (words), and how a lent buffer and the answer follow from it.
 -- Assumes nothing.
 use Prim.Native.Nat.{ℕ}
 use mathlib.Core.Bool.{cond}
@@ -34,7 +34,7 @@ limited n most (refused m k) = refused m k
 abbrev pub inRoom : ℕ → Outcome Row → Outcome Row
 inRoom room = limited 12 room
 
--- a writing into room for so many words: 24 last
+-- a writing, or a line, into room for so many words: 24 last
 abbrev pub inWordRoom : ℕ → Outcome ℕ → Outcome ℕ
 inWordRoom room = limited 24 room
 

@@ -1,2 +1,4 @@
+pub mod Edges
+pub mod Exact
 pub mod LineLaws
 pub mod TextLaws

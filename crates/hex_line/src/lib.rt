@@ -2,6 +2,7 @@
 mod line;
 mod text;
 
+pub use line::LONGEST_LINE;
 pub use line::f_words;
 pub use line::s_words;
 pub use text::put_bytes;

@@ -10,7 +10,7 @@ ghost use Rattle.dialects.specs.Dialects.{S, F};
 ghost use Rattle.hex_line.specs.Line.{isDigit, digitOf, valueOf, allDigits, allGroups, wellFormed, wordsOf, lineInto};
 
 // The most characters of a line.
-const LONGEST: usize = 20481;
+pub const LONGEST_LINE: usize = 20481;
 
 // The words of a line of dialect S.
 pub fn s_words(line: &[u8], words: &mut [u16]) -> Answer
@@ -63,7 +63,7 @@ fn well_formed(line: &[u8], letter: u8, digits: usize) -> bool
     if line.len() == 0 {
         return false;
     }
-    if LONGEST < line.len() {
+    if LONGEST_LINE < line.len() {
         return false;
     }
     if line[0] != letter {

@@ -12,7 +12,7 @@ use Rattle.event.specs.Outcome.{defaultOrder, answerOf, given}
 use Rattle.hex_line.specs.Text.{Placed}
 use Rattle.listing.specs.declared.Next.{Next}
 use Rattle.listing.specs.declared.Next.the-variants.{Line, Long, More, End, Cut}
-use Rattle.listing.specs.Listing.{linesOf, lineRows, acceptedIn, refusedIn, listFrom}
+use Rattle.listing.specs.Listing.{mostLines, linesOf, lineRows, acceptedIn, refusedIn, listFrom}
 use Rattle.listing.specs.Text.{eventText}
 use Rattle.list_events.specs.declared.Run.{Run}
 
@@ -21,7 +21,7 @@ pub record Inside (n m : ℕ) (run : Run) : Type 0 where
   pub begins : run .from ≤ run .end
   pub ends : run .end ≤ n
   pub text : run .at ≤ m
-  pub lines : run .accepted + run .refused ≤ 1000000
+  pub lines : run .accepted + run .refused ≤ mostLines
 
 -- the buffers for a line's words and rows: room for every line that is not too long, and for as many rows as words
 abbrev pub Rooms : (words longwords rows : List ℕ) → Type 0

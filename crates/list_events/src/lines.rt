@@ -10,12 +10,13 @@ ghost use lib.ListN.{length, take, drop};
 ghost use Rattle.event.specs.Writing.{rowsIn};
 ghost use Rattle.hex_line.specs.Text.{Placed};
 ghost use Rattle.listing.specs.Input.{nextOf};
+ghost use Rattle.listing.specs.Listing.{mostLines};
 ghost use Rattle.listing.specs.Lengths.{answerLength};
 ghost use Rattle.listing.specs.Text.{eventText, lastText};
 ghost use Rattle.list_events.specs.Run.{Inside, Rooms, restOf, behind, countOf, acceptedOf, LineListed, Kept, ends, RestPut};
 ghost use mathlib.Core.Bool.{true};
 
-// The most characters that a line's answer and rows take: those of a refusal, and 4,096 rows of 36 each.
+// A line's answer and rows take no more characters than a refusal and 4,096 rows of 36 each.
 const MOST_TEXT: usize = 147503;
 
 // Lists whole lines while there is room for their text, and says what comes next.
@@ -67,7 +68,7 @@ pub(crate) fn list_line(
     run: Run,
 ) -> Run
     requires { ⌜ Inside (length (now input)) (length (now text)) run ⌝ }
-    requires { ⌜ (run .from < run .end) × (count ≤ run .end - run .from) × (run .accepted + run .refused < 1000000) × (run .at + 147503 ≤ length (now text)) ⌝ }
+    requires { ⌜ (run .from < run .end) × (count ≤ run .end - run .from) × (run .accepted + run .refused < mostLines) × (run .at + 147503 ≤ length (now text)) ⌝ }
     requires { ⌜ Rooms (now words) (now longwords) (now rows) ⌝ }
     ensures { λ r. ⌜ Inside (length (now (input .entry))) (length (now (text .entry))) r ⌝ }
     ensures { λ r. ⌜ LineListed (take count (drop (run .from) (now (input .entry)))) (behind run count) run (now (text .entry)) r (now (text .exit)) ⌝ }
@@ -120,7 +121,7 @@ fn accepted_of(answer: Answer) -> u64
 
 // Puts the answer and the rows behind the text that is not written yet, and answers where it ends.
 fn put_event(text: &mut [u8], run: Run, answer: Answer, rows: &[u32]) -> usize
-    requires { ⌜ run .accepted + run .refused < 1000000 ⌝ }
+    requires { ⌜ run .accepted + run .refused < mostLines ⌝ }
     requires { ⌜ run .at + (answerLength answer + 36 * (length (now rows) / 4)) ≤ length (now text) ⌝ }
     ensures { λ r. ⌜ Placed (now (text .entry)) (run .at) (eventText (run .accepted + run .refused + 1) answer (rowsIn (now (rows .entry)))) r (now (text .exit)) ⌝ }
 {

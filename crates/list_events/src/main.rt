@@ -6,9 +6,10 @@ mod streams;
 
 use listing::Next;
 use streams::turn;
-ghost use Prim.Native.Nat.{_≤_};
+ghost use Prim.Native.Nat.{_<_, _≤_};
 ghost use mathlib.Core.Path.{_≡_};
 ghost use lib.ListN.{length};
+ghost use Rattle.hex_line.specs.Line.{longestLine};
 ghost use Rattle.list_events.specs.Run.{Rooms};
 
 // Where a run stands: input[from..end] was read and is not listed yet, text[..at] is not written yet, and so many lines were listed.
@@ -41,7 +42,7 @@ fn list(
     text: &mut [u8],
 )
     requires { ⌜ Rooms (now words) (now longwords) (now rows) ⌝ }
-    requires { ⌜ 147540 ≤ length (now text) ⌝ }
+    requires { ⌜ (longestLine < length (now input)) × (147540 ≤ length (now text)) ⌝ }
 {
     let mut state = Turn {
         run: Run {

@@ -7,10 +7,15 @@ use crate::lines::put_rest;
 use libc::STDIN_FILENO;
 use libc::STDOUT_FILENO;
 use listing::Next;
-ghost use Prim.Native.Nat.{_+_, _-_, _≤_};
+ghost use Prim.Native.Nat.{_+_, _-_, _<_, _≤_};
 ghost use mathlib.Core.Path.{_≡_};
 ghost use mathlib.Core.List.{_++_};
+ghost use mathlib.Core.Bool.{true, false};
+ghost use lib.Dec.{eqb};
+ghost use lib.IntN.{pos};
 ghost use lib.ListN.{length, take, drop};
+ghost use lib.Signed.{leZ};
+ghost use Rattle.io.specs.Counts.{clamped};
 ghost use Rattle.list_events.specs.Run.{Inside, Rooms, restOf};
 
 // Lists what was read, writes what is listed, and then reads more, or ends.
@@ -86,7 +91,7 @@ fn write(text: &[u8], at: usize) -> bool
 }
 
 fn stopped(run: Run) -> Turn
-    ensures { λ r. ⌜ r .run ≡ run ⌝ }
+    ensures { λ r. ⌜ r ≡ record { run = run; ended = true; «goes_on» = false } ⌝ }
 {
     Turn {
         run,
@@ -106,11 +111,21 @@ fn refill(input: &mut [u8], run: Run) -> Turn
     let rest = run.end - from;
     move_to_front(input, from, rest);
     let got = libc::read(STDIN_FILENO, &mut input[rest..]);
-    let more = io::count(got, &input[rest..]);
+    after_read(run, got, &input[rest..])
+}
+
+// The run after a read of `got` characters into `part`: at the end of the input there were none, and a failed read ends the run.
+fn after_read(run: Run, got: isize, part: &[u8]) -> Turn
+    requires { ⌜ (run .from ≤ run .end) × (run .end - run .from + length (now part) < 18446744073709551616) ⌝ }
+    ensures { λ r. ⌜ r .run ≡ record { from = 0; end = run .end - run .from + clamped got (length (now (part .entry))); at = 0; accepted = run .accepted; refused = run .refused } ⌝ }
+    ensures { λ r. ⌜ r .run .end ≤ run .end - run .from + length (now (part .entry)) ⌝ }
+    ensures { λ r. ⌜ (r .ended ≡ eqb (clamped got (length (now (part .entry)))) 0) × (r .«goes_on» ≡ leZ (pos 0) got) ⌝ }
+{
+    let more = io::count(got, part);
     Turn {
         run: Run {
             from: 0,
-            end: rest + more,
+            end: run.end - run.from + more,
             at: 0,
             accepted: run.accepted,
             refused: run.refused,

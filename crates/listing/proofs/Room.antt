@@ -18,7 +18,7 @@ use Rattle.hex_line.specs.Line.{letter, digits, wellFormed, wordCount, wordsOf,
 use Rattle.hex_line.proofs.LineLaws.{formed-short, firsts-length}
 use Rattle.listing.specs.Text.{eventText}
 use Rattle.listing.proofs.TextLaws.{answer-most, event-length}
-use Rattle.listing.specs.Listing.{dialectOf, onward, lineRows, wordRooms, lineRowsInto}
+use Rattle.listing.specs.Listing.{dialectOf, andThen, lineRows, wordRooms, lineRowsInto}
 
 -- the words that a line which is not too long may have
 abbrev mostWords : Dialect → ℕ
@@ -59,17 +59,17 @@ module _ (o : StampOrder) (line : List ℕ) where
   pub few-line-rows : length (given (lineRows o line)) ≤ 4096
   few-line-rows = go (dialectOf line) (lineWords (dialectOf line) line) refl
     where
-      go : (d : Dialect) (x : Outcome ℕ) → lineWords d line ≡ x → length (given (onward (reading d o) x)) ≤ 4096
+      go : (d : Dialect) (x : Outcome ℕ) → lineWords d line ≡ x → length (given (andThen (reading d o) x)) ≤ 4096
       go d (done ws) e = le-trans (few-rows d o ws) (le-trans (few-words d line ws e) (under d))
       go d (refused n k) e = omega arith
 
   pub room-enough : lineRowsInto (wordRooms 4096 2275) 4096 o line ≡ lineRows o line
   room-enough = go (dialectOf line) (lineWords (dialectOf line) line) refl
     where
-      go : (d : Dialect) (x : Outcome ℕ) → lineWords d line ≡ x → onward (readingInto d 4096 o) (limited 24 (mostWords d) x) ≡ onward (reading d o) x
+      go : (d : Dialect) (x : Outcome ℕ) → lineWords d line ≡ x → andThen (readingInto d 4096 o) (limited 24 (mostWords d) x) ≡ andThen (reading d o) x
       go d (done ws) e =
           let h = few-words d line ws e in
-          ap (onward (readingInto d 4096 o)) (within 24 (mostWords d) (done ws) h) ∙ read-into d 4096 o ws (le-trans h (under d))
+          ap (andThen (readingInto d 4096 o)) (within 24 (mostWords d) (done ws) h) ∙ read-into d 4096 o ws (le-trans h (under d))
       go d (refused n k) e = refl
 
   -- the most characters that a line's answer and rows take

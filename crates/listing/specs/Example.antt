@@ -2,10 +2,11 @@
 -- Assumes nothing.
 use Prim.Native.Nat.{ℕ}
 use mathlib.Core.Path.{_≡_}
-use mathlib.Core.List.{List, _++_}
+use mathlib.Core.List.{List, [], _∷_, _++_}
+use lib.ListN.{replicate}
 use Rattle.event.specs.Outcome.{defaultOrder}
 use Rattle.hex_line.specs.Text.{text}
-use Rattle.listing.specs.Listing.{listing}
+use Rattle.listing.specs.Listing.{listFrom, listing}
 
 abbrev good : List ℕ
 good = text "S 000e 5800 0005 0006 5803 1234 0000 0001 0000 0005 5804 0007 0000 0000\n"
@@ -36,3 +37,11 @@ Counted =
     ++ text "00000011 00000006 00000001 00000000\n"
     ++ text "00000012 00000006 00000000 0000002a\n"
     ++ text "end events 00000002 refused 00000003\n"
+
+-- the most lines and no more, one more, and a line too long before another
+abbrev pub Stops : Type 0
+Stops =
+    (listFrom defaultOrder 999999 1 [] ≡ text "end events 000f423f refused 00000001\n")
+    × (listFrom defaultOrder 999999 1 ([] ∷ []) ≡ text "cut events 000f423f refused 00000001\n")
+    × (listFrom defaultOrder 999999 0 ([] ∷ []) ≡ text "event 000f4240 refused 0000001e place 00000000\n" ++ text "end events 000f423f refused 00000001\n")
+    × (listFrom defaultOrder 0 0 (replicate 20482 83 ∷ text "S" ∷ []) ≡ text "event 00000001 refused 0000001e place 00000000\n" ++ text "cut events 00000000 refused 00000001\n")

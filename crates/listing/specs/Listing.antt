@@ -17,17 +17,17 @@ abbrev pub dialectOf : List ℕ → Dialect
 dialectOf line = cond (eqb (getD line 0 0) (letter F)) F S
 
 -- what is accepted goes on; a refusal stays
-abbrev pub onward : {A B : Type 0} → (List A → Outcome B) → Outcome A → Outcome B
-onward f (done xs) = f xs
-onward f (refused n k) = refused n k
+abbrev pub andThen : {A B : Type 0} → (List A → Outcome B) → Outcome A → Outcome B
+andThen f (done xs) = f xs
+andThen f (refused n k) = refused n k
 
 -- the rows of a line, with room enough
 abbrev pub lineRows : StampOrder → List ℕ → Outcome Row
-lineRows o line = onward (reading (dialectOf line) o) (lineWords (dialectOf line) line)
+lineRows o line = andThen (reading (dialectOf line) o) (lineWords (dialectOf line) line)
 
 -- the same with room for so many words and so many rows: 24 and 12
 abbrev pub rowsInto : (d : Dialect) → (wordRoom rowRoom : ℕ) → StampOrder → List ℕ → Outcome Row
-rowsInto d wordRoom rowRoom o line = onward (readingInto d rowRoom o) (lineInto d wordRoom line)
+rowsInto d wordRoom rowRoom o line = andThen (readingInto d rowRoom o) (lineInto d wordRoom line)
 
 -- each dialect's words have a room of their own
 abbrev pub wordRooms : (words longwords : ℕ) → Dialect → ℕ
@@ -37,14 +37,15 @@ wordRooms words longwords F = longwords
 abbrev pub lineRowsInto : (wordRoom : Dialect → ℕ) → (rowRoom : ℕ) → StampOrder → List ℕ → Outcome Row
 lineRowsInto wordRoom rowRoom o line = rowsInto (dialectOf line) (wordRoom (dialectOf line)) rowRoom o line
 
--- the lines of an input: each ends before its line feed, which the last may lack
-abbrev begun : ℕ → List (List ℕ) → List (List ℕ)
-begun c [] = (c ∷ []) ∷ []
-begun c (line ∷ lines) = (c ∷ line) ∷ lines
+-- a character before the first of some lines
+abbrev prepended : ℕ → List (List ℕ) → List (List ℕ)
+prepended c [] = (c ∷ []) ∷ []
+prepended c (line ∷ lines) = (c ∷ line) ∷ lines
 
+-- the lines of an input: each ends before its line feed, which the last may lack
 abbrev pub linesOf : List ℕ → List (List ℕ)
 linesOf [] = []
-linesOf (c ∷ s) = cond (eqb c 10) ([] ∷ linesOf s) (begun c (linesOf s))
+linesOf (c ∷ s) = cond (eqb c 10) ([] ∷ linesOf s) (prepended c (linesOf s))
 
 -- the most lines that are listed
 abbrev pub mostLines : ℕ

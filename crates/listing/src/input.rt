@@ -1,11 +1,10 @@
 // What comes next of an input that is listed while it comes in.
 use crate::Next;
+use hex_line::LONGEST_LINE;
 ghost use mathlib.Core.Path.{_≡_};
 ghost use Rattle.listing.specs.Input.{firstLine, nextOf};
 
-// The most characters of a line, and the most lines that are listed.
-const LONGEST_LINE: usize = 20481;
-
+// The most lines that are listed.
 const MOST_LINES: u64 = 1000000;
 
 // What comes next of `rest`, where the input has ended or goes on, after so many lines.
