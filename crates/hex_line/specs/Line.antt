@@ -1,10 +1,10 @@
 -- A hexadecimal line (document 01, 'The hexadecimal lines'): the dialect's letter, then for each word a space and 4 or 8 lower-case
 -- hexadecimal digits. The line feed is no part of it.
 -- Assumes nothing.
-use mathlib.Core.Bool.{Bool, true, false, cond, _&&_, _||_}
+use mathlib.Core.Bool.{Bool, true, cond, _&&_, _||_}
 use mathlib.Core.List.{List, [], _∷_, _++_}
 use Prim.Native.Nat.{ℕ, zero, suc, _+_, _-_, _*_, _/_, _%_}
-use lib.Dec.{ltb, leb, eqb}
+use lib.Dec.{ltb, eqb}
 use lib.ListN.{length, getD}
 use Rattle.event.specs.Outcome.{Outcome, done, refused, inWordRoom}
 use Rattle.event.specs.Words.{between}

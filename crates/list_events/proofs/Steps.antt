@@ -11,14 +11,13 @@ use lib.Seq.{take-nil, take-take, take-all, drop-drop}
 use borrow.Author.Tests.{eqb-true, eqb-false, ltb-true, ltb-false}
 use Rattle.event.specs.declared.Answer.the-variants.{Refused}
 use Rattle.event.specs.Outcome.{defaultOrder, answerOf, given}
-use Rattle.listing.specs.declared.Next.{Next}
-use Rattle.listing.specs.declared.Next.the-variants.{Line, Long, More, End, Cut}
+use Rattle.listing.specs.declared.Next.the-variants.{Line, Long, End, Cut}
 use Rattle.hex_line.specs.Text.{Placed}
 use Rattle.listing.specs.Input.{firstLine}
 use Rattle.listing.specs.Listing.{linesOf, lineRows, acceptedIn, refusedIn, listFrom}
 use Rattle.listing.specs.Text.{eventText, lastText}
 use Rattle.listing.proofs.InputLaws.{Known, first-within}
-use Rattle.listing.proofs.ListingLaws.{first-whole, first-last, Begins, begins, list-line, list-long, list-cut, list-end, long-refused}
+use Rattle.listing.proofs.ListingLaws.{first-whole, first-last, begins, list-line, list-long, list-cut, list-end, long-refused}
 use Rattle.listing.proofs.Room.{most-text}
 use Rattle.listing.proofs.TextLaws.{last-length}
 use Rattle.list_events.specs.declared.Run.{Run}

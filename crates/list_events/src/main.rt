@@ -7,7 +7,6 @@ mod streams;
 use listing::Next;
 use streams::turn;
 ghost use Prim.Native.Nat.{_<_, _≤_};
-ghost use mathlib.Core.Path.{_≡_};
 ghost use lib.ListN.{length};
 ghost use Rattle.hex_line.specs.Line.{longestLine};
 ghost use Rattle.list_events.specs.Run.{Rooms};

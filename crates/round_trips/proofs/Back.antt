@@ -3,14 +3,14 @@
 use Prim.Native.Nat.{ℕ, _*_, _≤_}
 use native.Mathlib.Omega.{arith}
 use mathlib.Core.Path.{_≡_, refl, sym, ap, _∙_}
-use mathlib.Core.List.{List, _++_}
+use mathlib.Core.List.{List}
 use lib.ListN.{length, take, drop}
 use lib.Seq.{take-at}
 use Rattle.event.specs.declared.Answer.{Answer}
 use Rattle.event.specs.declared.Answer.the-variants.{Accepted, Refused}
 use Rattle.event.specs.declared.Row.{Row}
 use Rattle.event.specs.declared.StampOrder.{StampOrder}
-use Rattle.event.specs.Outcome.{Outcome, done, refused, answerOf, given, overlaid, inRoom, inWordRoom}
+use Rattle.event.specs.Outcome.{Outcome, done, answerOf, given, overlaid, inRoom, inWordRoom}
 use Rattle.event.specs.Rows.{flat, room}
 use Rattle.event.specs.Writing.{rowsIn}
 use Rattle.event.proofs.Answers.{Given, refused-by, given-by}
