@@ -1,10 +1,11 @@
-//! `compare`: random events through both programs under test, byte for byte.
+//! `compare`: random events through the programs under test, byte for byte.
 
 use crate::base::Order;
 use crate::cases::{self, Case};
 use crate::child::{self, Outcome};
 use crate::damage_line;
 use crate::difference;
+use crate::host::{self, HostCall};
 use crate::limits;
 use crate::lines;
 use crate::rng::Rng;
@@ -22,15 +23,18 @@ pub struct Settings {
     pub events: usize,
     pub list_events: String,
     pub run_vectors: String,
+    pub host_calls: String,
 }
 
 struct Batch {
     /// The index of the first event among all.
     first_event: usize,
     cases: Vec<Case>,
-    /// Standard input of the two programs.
+    host_calls: Vec<HostCall>,
+    /// Standard input of the three programs.
     line_text: Vec<u8>,
     vector_text: Vec<u8>,
+    host_text: Vec<u8>,
 }
 
 /// Runs the whole comparison; an error is the report of the first difference.
@@ -38,7 +42,7 @@ pub fn run(settings: &Settings) -> Result<(), String> {
     let mut tally = Tally::new();
     let mut rng = Rng::new(settings.seed);
     let mut done = 0;
-    compare_batch(settings, &Batch::empty(), &mut tally)?;
+    compare_batch(settings, &Batch::of_edges(), &mut tally)?;
     while done < settings.events {
         let batch = Batch::random(&mut rng, done, settings.events - done);
         compare_batch(settings, &batch, &mut tally)?;
@@ -58,7 +62,26 @@ pub fn run(settings: &Settings) -> Result<(), String> {
 
 impl Batch {
     fn empty() -> Batch {
-        Batch { first_event: 0, cases: vec![], line_text: vec![], vector_text: vec![] }
+        Batch {
+            first_event: 0,
+            cases: vec![],
+            host_calls: vec![],
+            line_text: vec![],
+            vector_text: vec![],
+            host_text: vec![],
+        }
+    }
+
+    /// No line, no vector, and the edges of the host call.
+    fn of_edges() -> Batch {
+        let mut batch = Batch::empty();
+        host::edges().into_iter().for_each(|call| batch.push_host(call));
+        batch
+    }
+
+    fn push_host(&mut self, call: HostCall) {
+        call.push_text(&mut self.host_text);
+        self.host_calls.push(call);
     }
 
     fn random(rng: &mut Rng, first_event: usize, most: usize) -> Batch {
@@ -72,6 +95,7 @@ impl Batch {
                 vector.push_text(&mut batch.vector_text);
             }
             batch.cases.push(case);
+            batch.push_host(host::random(rng));
         }
         end_lines(rng, &mut batch.line_text);
         batch
@@ -99,6 +123,7 @@ fn compare_batch(settings: &Settings, batch: &Batch, tally: &mut Tally) -> Resul
     let label = |problem: String| format!("seed {}, events from {first}: {problem}", settings.seed);
     let listing = child::start(&settings.list_events, batch.line_text.clone()).map_err(label)?;
     let calls = child::start(&settings.run_vectors, batch.vector_text.clone()).map_err(label)?;
+    let hosts = child::start(&settings.host_calls, batch.host_text.clone()).map_err(label)?;
     let mut expected_listing = Vec::new();
     lines::list(&batch.line_text, Order::Crossed, &mut expected_listing, &mut |words, answer| {
         tally.add_line(words, answer);
@@ -108,8 +133,13 @@ fn compare_batch(settings: &Settings, batch: &Batch, tally: &mut Tally) -> Resul
         let answer = vector.push_answer(&mut expected_answers);
         tally.add_call(vector.call, answer);
     }
+    let mut expected_hosts = Vec::new();
+    for call in &batch.host_calls {
+        tally.add_host(call.push_answer(&mut expected_hosts));
+    }
     let listing = listing.finish();
     let calls = calls.finish();
+    let hosts = hosts.finish();
     judge(&settings.list_events, &batch.line_text, &expected_listing, &listing, |line| {
         let (event, input) = difference::line_of_output(&batch.line_text, &expected_listing, line);
         format!("event {} of the run, input line: {input}", first + event)
@@ -119,6 +149,14 @@ fn compare_batch(settings: &Settings, batch: &Batch, tally: &mut Tally) -> Resul
         let index = difference::vector_of_output(&expected_answers, line);
         let (event, input) = vector_input(batch, index);
         format!("event {} of the run, input vector:\n{input}", first + event)
+    })
+    .map_err(label)?;
+    judge(&settings.host_calls, &batch.host_text, &expected_hosts, &hosts, |line| {
+        let mut input = Vec::new();
+        if let Some(call) = batch.host_calls.get(line) {
+            call.push_text(&mut input);
+        }
+        format!("host call {} of the batch: {}", line + 1, String::from_utf8_lossy(&input))
     })
     .map_err(label)
 }

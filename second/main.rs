@@ -16,6 +16,7 @@ mod difference;
 mod edges_f;
 mod edges_order;
 mod edges_s;
+mod host;
 mod limits;
 mod lines;
 mod make_f;
@@ -38,7 +39,7 @@ const USAGE: &str = "usage: second list [crossed|rising]
        second answer
        second stored lines|vectors
        second met lines|vectors
-       second compare --seed N --events N [--list-events PATH] [--run-vectors PATH]
+       second compare --seed N --events N [--list-events PATH] [--run-vectors PATH] [--host-calls PATH]
        second check";
 
 fn main() -> ExitCode {
@@ -119,6 +120,7 @@ fn settings(options: &[&str]) -> Result<compare::Settings, String> {
         events: 20_000,
         list_events: "target/bin/list_events".to_string(),
         run_vectors: "target/bin/run_vectors".to_string(),
+        host_calls: "target/host/host_calls".to_string(),
     };
     for pair in options.chunks(2) {
         let &[name, value] = pair else { return Err(USAGE.to_string()) };
@@ -128,6 +130,7 @@ fn settings(options: &[&str]) -> Result<compare::Settings, String> {
             "--events" => settings.events = number? as usize,
             "--list-events" => settings.list_events = value.to_string(),
             "--run-vectors" => settings.run_vectors = value.to_string(),
+            "--host-calls" => settings.host_calls = value.to_string(),
             _ => return Err(USAGE.to_string()),
         }
     }

@@ -10,14 +10,15 @@ pub enum Source {
     Line,
     Reading,
     Writing,
+    Host,
 }
 
-use Source::{Line, Reading, Writing};
+use Source::{Host, Line, Reading, Writing};
 
-pub const SOURCES: [Source; 3] = [Line, Reading, Writing];
+pub const SOURCES: [Source; 4] = [Line, Reading, Writing, Host];
 
 /// The refusals that a long comparison must have met, by source and dialect.
-const WANTED: [(Source, char, &[u32]); 7] = [
+const WANTED: [(Source, char, &[u32]); 8] = [
     (Line, 'S', &[1, 2, 3, 4, 5, 6, 7, 8, 9, 10, 11]),
     (Line, 'F', &[1, 5, 6, 9, 10, 11]),
     (Line, '-', &[30]),
@@ -25,6 +26,7 @@ const WANTED: [(Source, char, &[u32]); 7] = [
     (Reading, 'F', &[1, 5, 6, 9, 10, 11, 12]),
     (Writing, 'S', &[20, 21, 22, 23, 24]),
     (Writing, 'F', &[20, 21, 22, 24]),
+    (Host, 'S', &[1, 2, 3, 4, 5, 6, 7, 8, 9, 10, 11, 31]),
 ];
 
 /// How often each answer was met.
@@ -66,6 +68,10 @@ impl Tally {
             Call::ReadF => (Reading, 'F'),
         };
         self.add(source, dialect, answer);
+    }
+
+    pub fn add_host(&mut self, answer: Answer) {
+        self.add(Host, 'S', answer);
     }
 
     fn count(&self, source: Source, dialect: char, number: u32) -> u64 {

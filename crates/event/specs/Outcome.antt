@@ -3,7 +3,7 @@
 use Prim.Native.Nat.{ℕ}
 use mathlib.Core.Bool.{cond}
 use mathlib.Core.List.{List, [], _++_}
-use lib.Dec.{leb}
+use lib.Dec.{leb, eqb}
 use lib.ListN.{length, drop}
 use Rattle.event.specs.declared.Answer.{Answer}
 use Rattle.event.specs.declared.Answer.the-variants as answer
@@ -15,6 +15,10 @@ use Rattle.event.specs.Parser.{Result, ok, refuse}
 -- the stamp order where none is given
 abbrev pub defaultOrder : StampOrder
 defaultOrder = stamp.Crossed
+
+-- the stamp order of a number: 0 is crossed, 1 rising (others are refused by 31)
+abbrev pub orderOf : ℕ → StampOrder
+orderOf n = cond (eqb n 0) stamp.Crossed stamp.Rising
 
 pub data Outcome (A : Type 0) : Type 0 where
   done : List A → Outcome A

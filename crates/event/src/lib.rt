@@ -6,7 +6,7 @@ pub mod rows;
 pub mod words;
 
 ghost use mathlib.Core.Path.{_≡_};
-ghost use Rattle.event.specs.Outcome.{defaultOrder};
+ghost use Rattle.event.specs.Outcome.{defaultOrder, orderOf};
 
 // A row of an event (document 01, 'Rows').
 pub struct Row {
@@ -39,6 +39,16 @@ pub fn default_order() -> StampOrder
     ensures { λ r. ⌜ r ≡ defaultOrder ⌝ }
 {
     StampOrder::Crossed
+}
+
+// The stamp order of a number: 0 is crossed, 1 rising. (Whoever takes a number refuses others by 31.)
+pub fn order_of(number: u32) -> StampOrder
+    ensures { λ r. ⌜ r ≡ orderOf number ⌝ }
+{
+    if number == 0 {
+        return StampOrder::Crossed;
+    }
+    StampOrder::Rising
 }
 
 // A part that is refused.

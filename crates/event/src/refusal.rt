@@ -1,4 +1,4 @@
-// The refusal numbers of document 01: of a reading 1 to 12, of a writing 20 to 24, of a hexadecimal line 30 and 24.
+// The refusal numbers of document 01: of a reading 1 to 12, of a writing 20 to 24, of a hexadecimal line 30 and 24, of a host's call 31.
 
 // The event has too few or too many words.
 pub const SIZE: u32 = 1;
@@ -36,3 +36,5 @@ pub const LARGE: u32 = 23;
 pub const WORDS: u32 = 24;
 // Not a hexadecimal line, or one that is too long.
 pub const LINE: u32 = 30;
+// A stamp order that is neither 0 (crossed) nor 1 (rising).
+pub const ORDER: u32 = 31;

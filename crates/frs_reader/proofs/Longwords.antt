@@ -32,15 +32,12 @@ pub footer-bad : (geo w : ℕ) → (w / 2 ^ 16 ≡ geo * 2 ^ 11 + 2 ^ 10 → ⊥
 unfolding footerFault
 footer-bad geo w h = rw (ne-eqb w (longword geo 4 (w % 2 ^ 16)) (λ e. h (omega arith)))
 
--- a data longword: bits 31-21 are the GEO, the flag 0 and zeros; the datum fills its 16 bits no further than it may
-pub value-layout : (geo w : ℕ) → w / 2 ^ 21 ≡ geo * 2 ^ 6 → w % 2 ^ 16 < 2 ^ datumBits → eqb w (valueWord geo (valueOf w)) ≡ true
-value-layout geo w e h = eq-eqb w (valueWord geo (valueOf w)) (omega arith)
+-- a data longword, whose channel was taken from it
+pub value-good : (geo w : ℕ) {channel : ℕ} → channel ≡ w / 2 ^ 16 % 2 ^ 5 → w ≡ geo * 2 ^ 27 + (channel * 2 ^ 16 + w % 2 ^ datumBits) → eqb w (valueWord geo (valueOf w)) ≡ true
+value-good geo w e h = eq-eqb w (valueWord geo (valueOf w)) (omega arith)
 
-pub value-other : (geo w : ℕ) → (w / 2 ^ 21 ≡ geo * 2 ^ 6 → ⊥) → eqb w (valueWord geo (valueOf w)) ≡ false
-value-other geo w h = ne-eqb w (valueWord geo (valueOf w)) (λ e. h (omega arith))
-
-pub value-wide : (geo w : ℕ) → 2 ^ datumBits ≤ w % 2 ^ 16 → eqb w (valueWord geo (valueOf w)) ≡ false
-value-wide geo w h = ne-eqb w (valueWord geo (valueOf w)) (λ e. omega arith)
+pub value-bad : (geo w : ℕ) {channel : ℕ} → channel ≡ w / 2 ^ 16 % 2 ^ 5 → (w ≡ geo * 2 ^ 27 + (channel * 2 ^ 16 + w % 2 ^ datumBits) → ⊥) → eqb w (valueWord geo (valueOf w)) ≡ false
+value-bad geo w e h = ne-eqb w (valueWord geo (valueOf w)) (λ q. h (omega arith))
 
 -- a number below 32 is in the set
 pub is-in : (seen : ℕ) {a b : ℕ} {r : Bool} → r ≡ present seen (a % 32) → a ≡ b → b < 32 → present seen b ≡ r

@@ -90,18 +90,16 @@ pub(crate) fn header_fault(seen: u32, w: u32) -> u32
     0
 }
 
-// The refusal that a data longword of the module with this GEO meets, 0 for none. Bits 26-21 are the flag 0 and zeros.
+// The refusal that a data longword of the module with this GEO meets, 0 for none. The longword is the one that its GEO, its channel and its datum print.
 pub(crate) fn value_fault(geo: u32, seen: u32, w: u32) -> u32
     requires { ⌜ geo < 32 ⌝ }
     ensures { λ r. ⌜ r ≡ valueFault geo seen w ⌝ }
 {
-    if w / 0x0020_0000 != geo * 64 {
+    let channel = channel_of(w);
+    if w != geo * 0x0800_0000 + (channel * 0x0001_0000 + w % frs_format::DATUM_END) {
         return refusal::DATA;
     }
-    if frs_format::DATUM_END <= w % 0x0001_0000 {
-        return refusal::DATA;
-    }
-    if contains(seen, channel_of(w)) {
+    if contains(seen, channel) {
         return refusal::REPEATED;
     }
     0

@@ -5,8 +5,7 @@ use Prim.Native.Nat.{ℕ, zero, suc, _+_, _-_, _*_, _/_, _≤_, _<_}
 use lib.Dec.{ltb, leb, eqb}
 use lib.ListN.{length, take, replicate}
 use Rattle.event.specs.declared.Row.{Row}
-use Rattle.event.specs.declared.StampOrder.{StampOrder}
-use Rattle.event.specs.declared.StampOrder.the-variants.{Crossed, Rising}
+use Rattle.event.specs.Outcome.{orderOf}
 use Rattle.event.specs.Rows.{row}
 use Rattle.event.specs.Scanning.{storeRows}
 use Rattle.run_vectors.specs.declared.lines.Numbers.{Numbers}
@@ -23,9 +22,6 @@ use Rattle.run_vectors.specs.Lines.{lineAt}
 -- the four calls by their numbers
 abbrev pub callOf : ℕ → Call
 callOf n = cond (eqb n 0) WriteS (cond (eqb n 1) WriteF (cond (eqb n 2) ReadS ReadF))
-
-abbrev pub orderOf : ℕ → StampOrder
-orderOf n = cond (eqb n 0) Crossed Rising
 
 -- the row of a run's line
 abbrev pub rowOf : Numbers → Row

@@ -7,12 +7,13 @@ use crate::lines::Numbers;
 use crate::lines::read_line;
 use event::Row;
 use event::StampOrder;
+use event::order_of;
 use event::rows::store_row;
 ghost use Prim.Native.Nat.{_+_, _/_, _≤_};
 ghost use mathlib.Core.Path.{_≡_};
 ghost use lib.ListN.{length, replicate};
 ghost use Rattle.event.specs.Scanning.{storeRows};
-ghost use Rattle.run_vectors.specs.Vectors.{callOf, orderOf, headHolds, allWords16, suits, rowOf, expansion, vectorOf, vectorAt, RowsWithin, VectorWithin};
+ghost use Rattle.run_vectors.specs.Vectors.{callOf, headHolds, allWords16, suits, rowOf, expansion, vectorOf, vectorAt, RowsWithin, VectorWithin};
 
 pub enum Call {
     WriteS,
@@ -110,15 +111,6 @@ fn call_of(number: u32) -> Call
         return Call::ReadS;
     }
     Call::ReadF
-}
-
-fn order_of(number: u32) -> StampOrder
-    ensures { λ r. ⌜ r ≡ orderOf number ⌝ }
-{
-    if number == 0 {
-        return StampOrder::Crossed;
-    }
-    StampOrder::Rising
 }
 
 // Whether a call takes these elements: the reading of S takes words of 16 bits, and the other calls any.

@@ -1,0 +1,4 @@
+pub mod Words
+pub mod Checked
+pub mod Apart
+pub mod Edges
