@@ -8,7 +8,7 @@ use mathlib.Core.Path.{_≡_, refl, sym, ap, _∙_}
 use mathlib.Core.List.{List, [], _∷_, _++_, append-nil}
 use lib.Dec.{ltb→lt}
 use lib.ListN.{length, take, drop, set, length-set, length-drop, drop-of-length-le}
-use lib.Seq.{set-comm, sets, sets-eq, take-all}
+use lib.Seq.{set-comm, set-out, sets, sets-eq, take-all}
 use borrow.Rule.Slice.PartMut.{putMid}
 use Rattle.event.specs.Words.{storeWord}
 use Rattle.event.specs.Outcome.{overlaid}
@@ -47,6 +47,12 @@ module _ (width : ℕ) where
   unfolding storeWord
   none-stored [] k = refl
   none-stored (w ∷ ws) k = none-stored ws (k + 1)
+
+  -- words past the end
+  pub past-the-end : (ws b : List ℕ) (k : ℕ) → length b ≤ k → storeWords width b k ws ≡ b
+  unfolding storeWord
+  past-the-end [] b k h = refl
+  past-the-end (w ∷ ws) b k h = ap (λ (l : List ℕ). storeWords width l (k + 1) ws) (set-out b k (w % 2 ^ width) h) ∙ past-the-end ws b (k + 1) (omega arith)
 
   -- a word past the first, in the rest
   first-kept : (x : ℕ) (ws b : List ℕ) (k : ℕ) → storeWords width (x ∷ b) (suc k) ws ≡ x ∷ storeWords width b k ws

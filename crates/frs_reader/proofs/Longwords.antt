@@ -32,12 +32,22 @@ pub footer-bad : (geo w : ℕ) → (w / 2 ^ 16 ≡ geo * 2 ^ 11 + 2 ^ 10 → ⊥
 unfolding footerFault
 footer-bad geo w h = rw (ne-eqb w (longword geo 4 (w % 2 ^ 16)) (λ e. h (omega arith)))
 
--- a data longword, whose channel was taken from it
-pub value-good : (geo w : ℕ) {channel : ℕ} → channel ≡ w / 2 ^ 16 % 2 ^ 5 → w ≡ geo * 2 ^ 27 + (channel * 2 ^ 16 + w % 2 ^ datumBits) → eqb w (valueWord geo (valueOf w)) ≡ true
-value-good geo w e h = eq-eqb w (valueWord geo (valueOf w)) (omega arith)
+-- a data longword: the bits that are neither its channel's nor its datum's are the GEO's
+abbrev fixedBits : ℕ → ℕ
+fixedBits w = w / 2 ^ 21 * 2 ^ 21 + w % 2 ^ 16 / 2 ^ datumBits * 2 ^ datumBits
 
-pub value-bad : (geo w : ℕ) {channel : ℕ} → channel ≡ w / 2 ^ 16 % 2 ^ 5 → (w ≡ geo * 2 ^ 27 + (channel * 2 ^ 16 + w % 2 ^ datumBits) → ⊥) → eqb w (valueWord geo (valueOf w)) ≡ false
-value-bad geo w e h = ne-eqb w (valueWord geo (valueOf w)) (λ q. h (omega arith))
+-- (the quotient leaves the datum's part out)
+pub value-good : (geo w : ℕ) → fixedBits w ≡ geo * 2 ^ 27 → eqb w (valueWord geo (valueOf w)) ≡ true
+value-good geo w h = go (omega (arith, ap (λ (n : ℕ). n / 2 ^ 21) h))
+  where
+    printed : w / 2 ^ 21 ≡ geo * 2 ^ 6 → w % 2 ^ 16 < 2 ^ datumBits → eqb w (valueWord geo (valueOf w)) ≡ true
+    printed e small = eq-eqb w (valueWord geo (valueOf w)) (omega arith)
+
+    go : w / 2 ^ 21 ≡ geo * 2 ^ 6 → eqb w (valueWord geo (valueOf w)) ≡ true
+    go e = printed e (omega (arith, h))
+
+pub value-bad : (geo w : ℕ) → (fixedBits w ≡ geo * 2 ^ 27 → ⊥) → eqb w (valueWord geo (valueOf w)) ≡ false
+value-bad geo w h = ne-eqb w (valueWord geo (valueOf w)) (λ q. h (omega arith))
 
 -- a number below 32 is in the set
 pub is-in : (seen : ℕ) {a b : ℕ} {r : Bool} → r ≡ present seen (a % 32) → a ≡ b → b < 32 → present seen b ≡ r

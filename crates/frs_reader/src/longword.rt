@@ -90,16 +90,18 @@ pub(crate) fn header_fault(seen: u32, w: u32) -> u32
     0
 }
 
-// The refusal that a data longword of the module with this GEO meets, 0 for none. The longword is the one that its GEO, its channel and its datum print.
+// The refusal that a data longword of the module with this GEO meets, 0 for none. The bits that are neither its channel's nor its datum's are the GEO's:
+// written so, they are one mask and one comparison.
 pub(crate) fn value_fault(geo: u32, seen: u32, w: u32) -> u32
     requires { ⌜ geo < 32 ⌝ }
     ensures { λ r. ⌜ r ≡ valueFault geo seen w ⌝ }
 {
-    let channel = channel_of(w);
-    if w != geo * 0x0800_0000 + (channel * 0x0001_0000 + w % frs_format::DATUM_END) {
+    let above = w / 0x0020_0000 * 0x0020_0000;
+    let between = w % 0x0001_0000 / frs_format::DATUM_END * frs_format::DATUM_END;
+    if above + between != geo * 0x0800_0000 {
         return refusal::DATA;
     }
-    if contains(seen, channel) {
+    if contains(seen, channel_of(w)) {
         return refusal::REPEATED;
     }
     0

@@ -113,17 +113,19 @@ pub(crate) fn write_samples(rows: &[u32], from: usize, words: &mut [u16], first:
 {
     let mut i = from;
     let mut at = first;
-    while before_kind(rows, i, kind::ANODE) {
+    loop {
         let row = row_at(rows, i);
         let number = limits_fault(row, kind::SAMPLE, 511, 255, 1023);
         if number != 0 {
-            return Part::Refused { number, place: i };
+            if before_kind(rows, i, kind::ANODE) {
+                return Part::Refused { number, place: i };
+            }
+            return Part::Done { next: i, count: at };
         }
         store_sample(words, at, row);
         at += 2;
         i += 1;
     }
-    Part::Done { next: i, count: at }
 }
 
 // Bit 15 set, the sample in bits 14-6, the channel of the pad in bits 5-0; then its connector in bits 11-10, the energy below.
@@ -131,6 +133,9 @@ fn store_sample(words: &mut [u16], at: usize, row: Row)
     requires { ⌜ (at + 1 < 2 ^ 64) × (row .unit ≤ 511) × (row .channel ≤ 255) × (row .datum ≤ 1023) ⌝ }
     ensures { λ _. ⌜ now (words .exit) ≡ storeWords 16 (now (words .entry)) at (sampleWords (sampleOf row)) ⌝ }
 {
+    if words.len() <= at {
+        return;
+    }
     let head = 32768 + row.unit * 64 + row.channel % 64;
     store_word16(words, at, head as usize);
     let datum = row.channel / 64 * 1024 + row.datum;
