@@ -1,7 +1,7 @@
 -- The loop over the data longwords of a module, and the loop over modules. Over plain values.
 -- Assumes nothing.
-use Prim.Native.Nat.{ℕ, suc, _+_, _/_, _%_, _^_, _≤_, _<_}
-use native.Mathlib.Nat.{le-refl}
+use Prim.Native.Nat.{ℕ, suc, _+_, _-_, _/_, _%_, _^_, _≤_, _<_}
+use native.Mathlib.Nat.{le-refl, add-zero}
 use native.Mathlib.Omega.{arith}
 use mathlib.Core.Path.{_≡_, refl, ap, sym, _∙_, subst}
 use mathlib.Core.Bool.{cond}
@@ -17,13 +17,13 @@ use Rattle.event.specs.Parser.{Result, ok, refuse, ended, filled, many, each}
 use Rattle.event.specs.Channels.{insert, Blocked}
 use Rattle.event.specs.Rows.{row, storeRow}
 use Rattle.event.specs.Scanning.{storeRows, Scanned}
-use Rattle.event.proofs.ChannelLaws.{blocked-more}
+use Rattle.event.proofs.ChannelLaws.{blocked-none, blocked-more}
 use Rattle.event.proofs.Elements.{each-map}
 use Rattle.event.proofs.Ends.{ends-many}
 use Rattle.event.proofs.Impossible.{impossible}
 use Rattle.event.proofs.Leads.{refused-scan}
 use Rattle.event.proofs.Loops.{to-the-end, at-end}
-use Rattle.event.proofs.Turns.{Reached, stop, step, at-word}
+use Rattle.event.proofs.Turns.{Reached, begin, stop, step, at-word}
 use Rattle.frs_layout.specs.Event.{Value, Module, empty, withData}
 use Rattle.frs_layout.specs.Layout.{valueWord, valueRow, moduleRows, channels, geos}
 use Rattle.frs_layout.specs.Reading.{valueOf, value, values, footer, oneModule}
@@ -31,10 +31,11 @@ use Rattle.frs_layout.proofs.Words.{codes-value, codes-values, codes-module, no
 use Rattle.frs_reader.specs.declared.Opened.{Opened}
 use Rattle.frs_reader.specs.declared.Opened.the-variants.{Empty, Block, Refused}
 use Rattle.frs_reader.specs.Longword.{valueFault, footerFault}
-use Rattle.frs_reader.specs.Modules.{openedOf, rowsOpened, openedRows}
+use Rattle.frs_reader.specs.Modules.{openedOf, rowsOpened, openedRows, storedValues}
 use Rattle.frs_reader.proofs.Blocks.{values-refused, values-read}
 use Rattle.frs_reader.proofs.Judged.{value-judged, footer-judged}
 use Rattle.frs_reader.proofs.Modules.{Opens, opens}
+use Rattle.frs_reader.proofs.Values.{length-values}
 
 abbrev valueRows : ℕ → Value → List Row
 valueRows g v = valueRow g v ∷ []
@@ -60,6 +61,32 @@ module _ {g set : ℕ} {ws : List ℕ} {end i₀ k₀ i k : ℕ} {b₀ b : List 
       let low : channel % 32 ≡ valueOf w .channel = omega arith in
       let t : value g (h .state) i (slice i end ws) ≡ ok (valueOf w) (i + 1) (slice (i + 1) end ws) = judged ∙ rw (← f, one) in
       step (codes-value g) (λ u v p r. refl) h below long t (rw (s, low) (blocked-more (valueOf w .channel) (h .holds))) (omega arith) (omega arith) refl q z
+
+-- the data longwords from `first` up to i are good: with their rows stored, from row k of the buffer on, the loop has reached i
+pub record ValuesTo (g set : ℕ) (ws : List ℕ) (end first k : ℕ) (b : List ℕ) (i : ℕ) : Type 0 where
+  pub from : first ≤ i
+  pub reached : Values g set ws end first k b i (k + (i - first)) (storedValues g ws first k b (i - first))
+
+pub values-begin : {g : ℕ} {ws : List ℕ} {end first k : ℕ} {b : List ℕ} → first ≤ end → k ≤ first → ValuesTo g 0 ws end first k b first
+unfolding storedValues
+values-begin {first = first} l m =
+    let none : first - first ≡ 0 = omega arith in
+    record { from = omega arith; reached = rw (none, add-zero) (begin blocked-none l m) }
+
+module _ {g set : ℕ} {ws : List ℕ} {end first k i : ℕ} {b : List ℕ} (h : ValuesTo g set ws end first k b i) where
+  pub values-next : i < end → end ≤ length ws → {w channel set′ : ℕ} → w ≡ getD ws i 0 → 0 ≡ valueFault g set w → channel ≡ w / 2 ^ 16 % 2 ^ 5 → set′ ≡ insert set (channel % 32)
+      → ValuesTo g set′ ws end first k b (i + 1)
+  unfolding storedValues
+  values-next below long {w} e f c s =
+      let m = i - first in
+      let more : i + 1 - first ≡ suc m = omega (arith, h .from) in
+      let there : first + m ≡ i = omega (arith, h .from) in
+      let counted : k + suc m ≡ k + m + 1 = omega arith in
+      let z = length-values g ws first k b in
+      record {
+        from = omega (arith, h .from);
+        reached = rw (more, counted) (value-taken (h .reached) below long e f c s (rw (there, ← e)) (z (suc m) ∙ sym (z m)));
+      }
 
 -- the loop over modules; the set holds the GEOs before
 abbrev pub Modules : (set : ℕ) → List ℕ → ℕ → ℕ → List ℕ → ℕ → ℕ → List ℕ → Type 0

@@ -9,7 +9,7 @@ use event::Row;
 use event::kind;
 use event::refusal;
 use event::rows::store_row;
-ghost use Prim.Native.Nat.{_<_};
+ghost use Prim.Native.Nat.{_-_, _/_, _<_, _≤_, min};
 ghost use mathlib.Core.Path.{_≡_};
 ghost use lib.ListN.{length};
 ghost use denote.Ref.{now};
@@ -17,7 +17,7 @@ ghost use Rattle.event.specs.Rows.{storeRow};
 ghost use Rattle.event.specs.Scanning.{storeRows};
 ghost use Rattle.frs_layout.specs.Layout.{valueRow};
 ghost use Rattle.frs_layout.specs.Reading.{valueOf};
-ghost use Rattle.frs_reader.specs.Modules.{openedOf, openedRows};
+ghost use Rattle.frs_reader.specs.Modules.{openedOf, openedRows, storedValues};
 
 // Refusals 6, 11 and 5 of the header at `at`; else the module's own row. Its counter stands in the footer, which is judged after the data.
 pub(crate) fn open_module(
@@ -64,15 +64,45 @@ pub(crate) fn open_module(
     Opened::Block { geo, end }
 }
 
-// The row of a data longword.
-pub(crate) fn store_value(rows: &mut [u32], at: usize, geo: u32, w: u32)
+// Stores the rows of the data longwords from `first` up to `end`, those that fit, from row `at` on.
+pub(crate) fn store_values(
+    words: &[u32],
+    first: usize,
+    end: usize,
+    geo: u32,
+    rows: &mut [u32],
+    at: usize,
+)
+    requires { ⌜ (first ≤ end) × (end ≤ length (now words)) ⌝ }
+    ensures { λ _. ⌜ now (rows .exit) ≡ storedValues geo (now (words .entry)) first at (now (rows .entry)) (end - first) ⌝ }
+{
+    let most = fitting(end - first, at, rows.len() / 4);
+    let mut i: usize = 0;
+    while i < most {
+        store_value(rows, at + i, geo, word(words, first + i));
+        i += 1;
+    }
+}
+
+// How many of `n` rows from row `at` on fit so much room.
+fn fitting(n: usize, at: usize, room: usize) -> usize
+    ensures { λ r. ⌜ r ≡ min n (room - at) ⌝ }
+{
+    if room <= at {
+        return 0;
+    }
+    let free = room - at;
+    if n < free { n } else { free }
+}
+
+// The row of a data longword. (It fits, so that the loop over them has no test of the room.)
+fn store_value(rows: &mut [u32], at: usize, geo: u32, w: u32)
+    requires { ⌜ at < length (now rows) / 4 ⌝ }
     ensures { λ _. ⌜ now (rows .exit) ≡ storeRow (now (rows .entry)) at (valueRow geo (valueOf w)) ⌝ }
 {
-    let row = Row {
-        kind: kind::VALUE,
-        unit: geo,
-        channel: channel_of(w),
-        datum: w % frs_format::DATUM_END,
-    };
-    store_row(rows, at, row);
+    let i = at * 4;
+    rows[i] = kind::VALUE;
+    rows[i + 1] = geo;
+    rows[i + 2] = channel_of(w);
+    rows[i + 3] = w % frs_format::DATUM_END;
 }

@@ -6,7 +6,7 @@ use crate::longword::footer_fault;
 use crate::longword::value_fault;
 use crate::longword::word;
 use crate::module::open_module;
-use crate::module::store_value;
+use crate::module::store_values;
 use event::Answer;
 use event::Part;
 use event::channels::with_channel;
@@ -19,7 +19,8 @@ ghost use Rattle.event.specs.Scanning.{Scanned};
 ghost use Rattle.frs_layout.specs.Layout.{moduleRows, rows as rowsOf, geos};
 ghost use Rattle.frs_layout.specs.Reading.{oneModule, eventParser};
 
-// Reads modules up to the end, or to the first longword that breaks a rule. The inner loop takes the data longwords of a module.
+// Reads modules up to the end, or to the first longword that breaks a rule. The inner loop judges the data longwords of a module; their rows are stored
+// together, behind it.
 fn modules(words: &[u32], start: usize, rows: &mut [u32], stored: usize) -> Answer
     requires { ⌜ (start ≤ length (now words)) × (stored ≤ start) ⌝ }
     ensures { λ r. ⌜ Scanned (each moduleRows) (many oneModule geos ended [] start (drop start (now (words .entry)))) stored (now (rows .entry)) r (now (rows .exit)) ⌝ }
@@ -44,6 +45,7 @@ fn modules(words: &[u32], start: usize, rows: &mut [u32], stored: usize) -> Answ
                 let mut channels: u32 = 0;
                 at += 1;
                 count += 1;
+                let first = at;
                 while at < end {
                     let w = word(words, at);
                     let number = value_fault(geo, channels, w);
@@ -51,14 +53,14 @@ fn modules(words: &[u32], start: usize, rows: &mut [u32], stored: usize) -> Answ
                         break 'blocks Answer::Refused { number, place: at };
                     }
                     channels = with_channel(channels, channel_of(w));
-                    store_value(rows, count, geo, w);
-                    count += 1;
                     at += 1;
                 }
                 let number = footer_fault(geo, word(words, at));
                 if number != 0 {
                     break 'blocks Answer::Refused { number, place: at };
                 }
+                store_values(words, first, end, geo, rows, count);
+                count += end - first;
                 at += 1;
             }
         }

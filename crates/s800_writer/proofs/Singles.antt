@@ -73,7 +73,6 @@ module _ {rs : List Row} {i₀ k₀ i n : ℕ} {b₀ b : List ℕ} (h : Samples 
   pub samples-step : {b′ : List ℕ} → 0 ≡ limitsFault 8 511 255 1023 r → b′ ≡ storeWords 16 b n (sampleWords (sampleOf r)) → length b′ ≡ length b → Samples rs i₀ k₀ b₀ (i + 1) (n + 2) b′
   samples-step f = several-taken 8 511 255 1023 sampleOf sampleRow (sampleChecks 22) sample-fault refl (λ a. (tt, (tt, (tt, (tt, tt))))) codes-sample (atKind 9) (λ a l. refl) refl sampleWords h going e f refl refl (omega arith)
 
-
 -- opaque words
 abbrev pub Opaques : List Row → ℕ → ℕ → List ℕ → ℕ → ℕ → List ℕ → Type 0
 Opaques rs = WritesOn 16 (upToStop atPacket (λ t. datumBelow 11 0 (2 ^ 16)) alone) wordAlone (λ t. Unit {0}) rs tt
