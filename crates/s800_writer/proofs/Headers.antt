@@ -19,17 +19,7 @@ use Rattle.event.proofs.WritingTurns.{writes-refused}
 use Rattle.s800_layout.specs.Event.{Opaque, Form, trigger, timeOfFlight, scintillator, ionChamber, crdc, hodoscope, objectPin, vmeAdc, opaque, formOf, tag, largestId}
 use Rattle.s800_layout.specs.Layout.{packetWords, idChecks}
 use Rattle.s800_layout.specs.Writing.{ofTag, headerOf, headerRow, packet}
-use Rattle.s800_layout.proofs.Lengths.{form-back}
 use Rattle.s800_writer.specs.Packets.{idCount, headerFault, WritesPacket}
-
--- the tag of a form, and of none
-pub count-known : (f : Form) {t : ℕ} → t ≡ tag f → suc (largestId f) ≡ idCount t
-unfolding idCount
-count-known f e = rw (e, form-back f, eq-eqb (tag f) (tag f) refl)
-
-pub count-none : (t : ℕ) → ((f : Form) → t ≡ tag f → ⊥) → 0 ≡ idCount t
-unfolding idCount
-count-none t z = rw (ne-eqb (tag (formOf t)) t (λ e. z (formOf t) (sym e)))
 
 -- a form's tag that is none of the others'
 pub an-opaque : (t : ℕ) → tag (formOf t) ≡ t → ((f : Form) → ((k : Opaque) → f ≡ opaque k → ⊥) → t ≡ tag f → ⊥) → (k : Opaque) × (formOf t ≡ opaque k)

@@ -7,6 +7,7 @@ pub mod Pairs
 pub mod Closing
 pub mod Packets
 pub mod Crdc
+pub mod Ids
 pub mod Headers
 pub mod Heads
 pub mod FewWords

@@ -14,7 +14,6 @@ use event::kind;
 use event::refusal;
 use event::refuse_part;
 use event::rows::row_at;
-use s800_format::is_opaque;
 use s800_format::tag;
 ghost use Prim.Native.Nat.{_≤_, _<_};
 ghost use mathlib.Core.Path.{_≡_};
@@ -27,24 +26,27 @@ ghost use Rattle.s800_layout.specs.Layout.{packetWords};
 ghost use Rattle.s800_layout.specs.Writing.{packet};
 ghost use Rattle.s800_writer.specs.Packets.{idCount, headerFault, WritesPacket};
 
-// How many ids a packet with this tag may have: 1 where it has none (0 stands in its own row), 0 for a tag of no packet.
+// How many ids a packet with tag 0x58x0 may have, by x.
+const IDS: [u32; 16] = [0, 1, 1, 1, 2, 1, 1, 1, 1, 1, 1, 3, 4, 0, 0, 0];
+
+// How many ids a packet with this tag may have: 1 where it has none (0 stands in its own row), 0 for a tag of no packet. It is looked up, since packets
+// of many tags follow each other in no order that a processor could foresee at a branch.
 fn id_count(tag: u32) -> u32
     ensures { λ r. ⌜ r ≡ idCount tag ⌝ }
 {
-    if is_opaque(tag) {
+    if tag / 256 != 0x58 {
+        return 0;
+    }
+    if tag % 16 == 0 {
+        return IDS[(tag / 16 % 16) as usize];
+    }
+    if tag == tag::TRIGGER {
         return 1;
     }
-    match tag {
-        tag::TRIGGER => 1,
-        tag::TIME_OF_FLIGHT => 1,
-        tag::SCINTILLATOR => 1,
-        tag::ION_CHAMBER => 1,
-        tag::CRDC => 2,
-        tag::HODOSCOPE => 3,
-        tag::OBJECT_PIN => 1,
-        tag::VME_ADC => 4,
-        _ => 0,
+    if tag == tag::TIME_OF_FLIGHT {
+        return 1;
     }
+    0
 }
 
 // The refusal that a packet's own row meets, 0 for none.
