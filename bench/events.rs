@@ -1,34 +1,34 @@
-//! The events that are read and written: one run of words each, with the rows as the second reader gives them.
+//! The events that are read and written: one run of words, with the rows as the second reader gives them.
 
 use crate::base::{Order, Row};
 use crate::rng::Rng;
 use crate::{make_f, make_s, read_f, read_s, tags};
+
+const SEED: u64 = 7;
 
 /// Words of one event after another, and their rows, four elements each.
 pub struct Events<W> {
     pub words: Vec<W>,
     pub rows: Vec<u32>,
     /// Where each event ends, in words and in elements of rows.
-    pub ends: Vec<(usize, usize)>,
+    ends: Vec<(usize, usize)>,
 }
 
-/// How the events of a set are made.
-#[derive(Clone, Copy)]
-pub struct MakeUp {
-    pub name: &'static str,
-    pub about: &'static str,
+/// What events a set has.
+#[derive(Clone, Copy, Debug)]
+pub enum MakeUp {
+    /// Those of the second reader's generator: packets or blocks of every kind, most events small.
+    Mixed,
+    /// S: a trigger, an ion chamber, two 0x5840 packets of 128 samples. F: 1,062 longwords.
+    Large,
+    /// 14 words, or 7 longwords.
+    Smallest,
 }
 
-pub const MIXED: MakeUp = MakeUp { name: "mixed", about: "events of the second reader's generator: every packet or block, most events small, few at the largest size" };
-pub const SAMPLES: MakeUp = MakeUp { name: "samples", about: "a trigger, an ion chamber, and two 0x5840 packets of 128 samples each" };
-pub const SMALLEST: MakeUp = MakeUp { name: "smallest", about: "events of the least size: 14 words, or 7 longwords" };
-pub const LARGEST: MakeUp = MakeUp { name: "largest", about: "events of 1,062 longwords: 32 scalers, a pattern unit, 30 modules of 32 values" };
-
-pub const S_MAKE_UPS: [MakeUp; 3] = [MIXED, SAMPLES, SMALLEST];
-pub const F_MAKE_UPS: [MakeUp; 3] = [MIXED, LARGEST, SMALLEST];
+pub const MAKE_UPS: [MakeUp; 3] = [MakeUp::Mixed, MakeUp::Large, MakeUp::Smallest];
 
 impl<W: Copy> Events<W> {
-    /// Events until there are `most_events`, or `most_words` words.
+    /// Events until there are so many of them, or so many words.
     fn made(
         most_events: usize,
         most_words: usize,
@@ -45,30 +45,40 @@ impl<W: Copy> Events<W> {
         events
     }
 
-    /// Calls `each` with the words and the rows of every event.
-    pub fn for_each(&self, mut each: impl FnMut(&[W], &[u32])) {
-        let (mut word, mut row) = (0, 0);
-        for &(word_end, row_end) in &self.ends {
+    pub fn count(&self) -> usize {
+        self.ends.len()
+    }
+
+    /// Calls `each` with the words and the rows of so many events, from one on; answers the number of words.
+    pub fn for_each(&self, first: usize, count: usize, mut each: impl FnMut(&[W], &[u32])) -> usize {
+        let (mut word, mut row) = if first == 0 { (0, 0) } else { self.ends[first - 1] };
+        let began = word;
+        for &(word_end, row_end) in &self.ends[first..first + count] {
             each(&self.words[word..word_end], &self.rows[row..row_end]);
             (word, row) = (word_end, row_end);
         }
+        word - began
     }
 }
 
 pub fn of_s(make_up: MakeUp, most_events: usize, most_words: usize) -> Events<u16> {
-    let mut rng = Rng::new(7);
-    let make = || match make_up.name {
-        "mixed" => make_s::event_of(&make_s::event(&mut rng)),
-        "samples" => make_s::event_of(&sample_packets(&mut rng)),
-        _ => make_s::event_of(&[make_s::stamp_packet(&mut rng), make_s::event_number_packet(&mut rng)]),
+    let mut rng = Rng::new(SEED);
+    let make = || match make_up {
+        MakeUp::Mixed => make_s::event_of(&make_s::event(&mut rng)),
+        MakeUp::Large => make_s::event_of(&sample_packets(&mut rng)),
+        MakeUp::Smallest => make_s::event_of(&first_packets(&mut rng)),
     };
     Events::made(most_events, most_words, make, |words| {
         read_s::rows_of(words, Order::Crossed).expect("made events are acceptable")
     })
 }
 
+fn first_packets(rng: &mut Rng) -> Vec<make_s::Packet> {
+    vec![make_s::stamp_packet(rng), make_s::event_number_packet(rng)]
+}
+
 fn sample_packets(rng: &mut Rng) -> Vec<make_s::Packet> {
-    let mut packets = vec![make_s::stamp_packet(rng), make_s::event_number_packet(rng)];
+    let mut packets = first_packets(rng);
     packets.push(make_s::packet_of(rng, tags::TRIGGER));
     packets.push(make_s::packet_of(rng, tags::ION_CHAMBER));
     packets.push(make_s::crdc_packet(rng, 128));
@@ -77,11 +87,11 @@ fn sample_packets(rng: &mut Rng) -> Vec<make_s::Packet> {
 }
 
 pub fn of_f(make_up: MakeUp, most_events: usize, most_words: usize) -> Events<u32> {
-    let mut rng = Rng::new(7);
-    let make = || match make_up.name {
-        "mixed" => make_f::event_of(&make_f::event(&mut rng)),
-        "largest" => make_f::event_of(&largest_blocks(&mut rng)),
-        _ => make_f::event_of(&[make_f::stamp(&mut rng), make_f::scaler(&mut rng, 1)]),
+    let mut rng = Rng::new(SEED);
+    let make = || match make_up {
+        MakeUp::Mixed => make_f::event_of(&make_f::event(&mut rng)),
+        MakeUp::Large => make_f::event_of(&largest_blocks(&mut rng)),
+        MakeUp::Smallest => make_f::event_of(&[make_f::stamp(&mut rng), make_f::scaler(&mut rng, 1)]),
     };
     Events::made(most_events, most_words, make, |words| {
         read_f::rows_of(words).expect("made events are acceptable")

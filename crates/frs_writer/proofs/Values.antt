@@ -13,8 +13,9 @@ use Rattle.event.specs.Channels.{insert, Blocked}
 use Rattle.event.specs.Words.{storeWord}
 use Rattle.event.specs.Writing.{ofKind, noRow}
 use Rattle.event.specs.Scanning.{Writes}
-use Rattle.event.proofs.ChannelLaws.{blocked-more}
+use Rattle.event.proofs.ChannelLaws.{blocked-none, blocked-more}
 use Rattle.event.proofs.RowJudged.{row-taken, row-refused}
+use Rattle.event.proofs.Turns.{begin}
 use Rattle.event.proofs.WritingTurns.{counted, WritesOn, rows-done, rows-refused, rows-taken}
 use Rattle.frs_layout.specs.Layout.{longword, valueRow, valueChecks, channels}
 use Rattle.frs_layout.specs.Writing.{valueOf, value}
@@ -45,7 +46,7 @@ module _ (g : ℕ) {rs : List Row} {n left set first i k : ℕ} {b₀ b : List �
     value-refused after f z q = rw q (rows-refused 32 h (one-more (value g) channels (h .state) i (drop i rs) (left - 1) one) after
         (row-refused (ofKind 22) valueOf (valueRow g) (valueChecks 22 22 (h .state .1)) refl (λ v. (tt, (tt, (tt, tt)))) rs i e (f ∙ value-seen g r (h .holds .1)) z))
 
-    pub value-taken : {w set′ : ℕ} {b′ : List ℕ} → 0 ≡ valueFault g set r → w ≡ longword g 0 (r .channel * 2 ^ 16 + r .datum) → b′ ≡ storeWord 32 b k w → set′ ≡ insert set (r .channel % 32)
+    value-taken : {w set′ : ℕ} {b′ : List ℕ} → 0 ≡ valueFault g set r → w ≡ longword g 0 (r .channel * 2 ^ 16 + r .datum) → b′ ≡ storeWord 32 b k w → set′ ≡ insert set (r .channel % 32)
         → length b′ ≡ length b → Values g rs n (left - 1) set′ first b₀ (i + 1) (k + 1) b′
     value-taken f w q s z =
         let few = h .few in
@@ -53,3 +54,23 @@ module _ (g : ℕ) {rs : List Row} {n left set first i k : ℕ} {b₀ b : List �
         let t = row-taken (ofKind 22) valueOf (valueRow g) (valueChecks 22 22 (h .state .1)) refl (λ v. (tt, (tt, (tt, tt)))) rs i e (f ∙ value-seen g r (h .holds .1)) in
         rows-taken 32 h (one-more (value g) channels (h .state) i (drop i rs) (left - 1) one) {a = valueOf r} (t .1)
         (rw one refl, rw (s, low) (blocked-more (r .channel) (h .holds .1))) (omega arith) (omega arith) refl (q ∙ ap (storeWord 32 b k) w) z
+
+-- k of the n values are written
+pub record ValuesTo (g : ℕ) (rs : List Row) (n k set first : ℕ) (b₀ b : List ℕ) : Type 0 where
+  pub most : k ≤ n
+  pub reached : Values g rs n (n - k) set first b₀ (first + k) (1 + k) b
+
+pub values-begin : {g : ℕ} {rs : List Row} {n first : ℕ} {b : List ℕ} → 1 ≤ first → first ≤ length rs → ValuesTo g rs n 0 0 first b b
+values-begin {n = n} {first = first} l m =
+    let here : first + 0 ≡ first = omega arith in
+    let all : n - 0 ≡ n = omega arith in
+    record { most = omega arith; reached = rw (here, all) (begin (refl, blocked-none) m (omega arith)) }
+
+pub values-next : (g : ℕ) {rs : List Row} {n k set first : ℕ} {b₀ b : List ℕ} (h : ValuesTo g rs n k set first b₀ b) → k < n → {r : Row} → r ≡ getD rs (first + k) noRow
+    → {w set′ : ℕ} {b′ : List ℕ} → 0 ≡ valueFault g set r → w ≡ longword g 0 (r .channel * 2 ^ 16 + r .datum) → b′ ≡ storeWord 32 b (1 + k) w → set′ ≡ insert set (r .channel % 32)
+    → length b′ ≡ length b → ValuesTo g rs n (k + 1) set′ first b₀ b′
+values-next g {n = n} {k = k} {first = first} h below e f w q s z =
+    let left : n - (k + 1) ≡ n - k - 1 = omega arith in
+    let row : first + (k + 1) ≡ first + k + 1 = omega arith in
+    let word : 1 + (k + 1) ≡ 1 + k + 1 = omega arith in
+    record { most = omega arith; reached = rw (left, row, word) (value-taken g (h .reached) (omega arith) e f w q s z) }

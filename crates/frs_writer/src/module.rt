@@ -24,24 +24,24 @@ fn write_values(rows: &[u32], first: usize, geo: u32, n: u32, words: &mut [u32])
     requires { ⌜ (1 ≤ first) × (first ≤ length (rowsIn (now rows))) × (geo < 2 ^ 5) × (n ≤ 32) ⌝ }
     ensures { λ r. ⌜ Writes 32 (each (valueWords geo)) (times (value geo) channels n [] first (drop first (rowsIn (now (rows .entry))))) (rowsIn (now (rows .entry))) 1 (now (words .entry)) r (now (words .exit)) ⌝ }
 {
-    let mut left = n;
-    let mut i = first;
-    let mut at: usize = 1;
+    let count = n as usize;
+    let mut k: usize = 0;
     let mut seen: u32 = 0;
-    while 0 < left {
-        let row = row_at(rows, i);
+    while k < count {
+        let row = row_at(rows, first + k);
         let number = value_fault(geo, seen, row);
         if number != 0 {
-            return refuse_part(number, i);
+            return refuse_part(number, first + k);
         }
         let word = longword(geo, 0, row.channel * 0x0001_0000 + row.datum);
-        store_word32(words, at, word);
+        store_word32(words, 1 + k, word);
         seen = with_channel(seen, row.channel);
-        left -= 1;
-        i += 1;
-        at += 1;
+        k += 1;
     }
-    Part::Done { next: i, count: at }
+    Part::Done {
+        next: first + k,
+        count: 1 + k,
+    }
 }
 
 // The module that begins at row `at`, at the front of the words. The set has the GEOs before it.

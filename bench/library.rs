@@ -1,0 +1,125 @@
+//! Reading and writing, the proved, the second reader's, and a plain copy of the same words and rows.
+
+use crate::calls::Calls;
+use crate::events::Events;
+use crate::timing::{rounds, Times};
+use std::hint::black_box;
+
+/// The works of a table, by their places in `Times`.
+const CHECK: usize = 0;
+const READ: usize = 1;
+const WRITE: usize = 2;
+const SECOND_CHECK: usize = 3;
+const SECOND_READ: usize = 4;
+const SECOND_WRITE: usize = 5;
+const COPY: usize = 6;
+const WORKS: usize = 7;
+
+/// Room for the rows, and the words, of any event.
+struct Room<W> {
+    rows: Vec<u32>,
+    words: Vec<W>,
+}
+
+pub struct Contest<W> {
+    proved: Calls<W>,
+    second: Calls<W>,
+}
+
+impl<W: Copy + Default + PartialEq> Contest<W> {
+    pub fn new(proved: Calls<W>, second: Calls<W>) -> Contest<W> {
+        Contest { proved, second }
+    }
+
+    fn room() -> Room<W> {
+        Room { rows: vec![0; 4 * 4096], words: vec![W::default(); 4096] }
+    }
+
+    /// Both give each event's rows, and its words back, before anything is timed. A check needs as many rows as are read.
+    pub fn agree(&self, events: &Events<W>) {
+        let mut room = Self::room();
+        events.for_each(0, events.count(), |words, rows| {
+            for calls in [self.proved, self.second] {
+                assert_eq!((calls.read)(words, &mut room.rows), rows.len() / 4, "rows counted");
+                assert!(room.rows[..rows.len()] == *rows, "rows");
+                assert_eq!((calls.read)(words, &mut []), rows.len() / 4, "rows needed");
+                assert_eq!((calls.write)(rows, &mut room.words), words.len(), "words counted");
+                assert!(room.words[..words.len()] == *words, "words");
+            }
+        });
+    }
+
+    fn work(&self, which: usize, room: &mut Room<W>, words: &[W], rows: &[u32]) -> usize {
+        match which {
+            CHECK => (self.proved.read)(words, &mut []),
+            READ => (self.proved.read)(words, &mut room.rows),
+            WRITE => (self.proved.write)(rows, &mut room.words),
+            SECOND_CHECK => (self.second.read)(words, &mut []),
+            SECOND_READ => (self.second.read)(words, &mut room.rows),
+            SECOND_WRITE => (self.second.write)(rows, &mut room.words),
+            _ => {
+                room.words[..words.len()].copy_from_slice(words);
+                room.rows[..rows.len()].copy_from_slice(rows);
+                black_box((&room.words, &room.rows));
+                words.len()
+            }
+        }
+    }
+
+    /// A table row: the set's make-up, and the times by word and as ratios. The events are gone through `times` times a round.
+    pub fn table_row(&self, name: &str, events: &Events<W>, times: usize) {
+        let mut room = Self::room();
+        let measured = rounds(WORKS, |which| {
+            for _ in 0..times {
+                events.for_each(0, events.count(), |words, rows| {
+                    black_box(self.work(which, &mut room, words, rows));
+                });
+            }
+        });
+        let words = (events.words.len() * times) as f64;
+        println!(
+            "| {name} | {} | {} | {} | {} |",
+            events.count(),
+            events.words.len(),
+            events.rows.len() / 4,
+            columns(&measured, words)
+        );
+    }
+
+    /// The times by word of one pass over so many events, from different places of the set, so that no pass repeats the one before.
+    pub fn growth_row(&self, name: &str, events: &Events<W>, count: usize) {
+        let mut room = Self::room();
+        let mut at = 0;
+        let mut words = 0;
+        let measured = rounds(WORKS, |which| {
+            if at + count > events.count() {
+                at = 0;
+            }
+            words = events.for_each(at, count, |words, rows| {
+                black_box(self.work(which, &mut room, words, rows));
+            });
+            at += count;
+        });
+        println!("| {name} | {count} | {} |", columns(&measured, words as f64));
+    }
+}
+
+/// ns by word of check, fill, reading, writing, copy; then check, reading and writing by the second reader's, reading and writing by the copy.
+fn columns(measured: &Times, words: f64) -> String {
+    let ns = [
+        measured.of(CHECK),
+        measured.more(READ, CHECK),
+        measured.of(READ),
+        measured.of(WRITE),
+        measured.of(COPY),
+    ];
+    let ratios = [
+        measured.ratio(CHECK, SECOND_CHECK),
+        measured.ratio(READ, SECOND_READ),
+        measured.ratio(WRITE, SECOND_WRITE),
+        measured.ratio(READ, COPY),
+        measured.ratio(WRITE, COPY),
+    ];
+    let cells: Vec<String> = ns.iter().map(|time| time / words).chain(ratios).map(|cell| format!("{cell:.2}")).collect();
+    cells.join(" | ")
+}
