@@ -50,7 +50,12 @@ impl<W: Copy> Events<W> {
     }
 
     /// Calls `each` with the words and the rows of so many events, from one on; answers the number of words.
-    pub fn for_each(&self, first: usize, count: usize, mut each: impl FnMut(&[W], &[u32])) -> usize {
+    pub fn for_each(
+        &self,
+        first: usize,
+        count: usize,
+        mut each: impl FnMut(&[W], &[u32]),
+    ) -> usize {
         let (mut word, mut row) = if first == 0 { (0, 0) } else { self.ends[first - 1] };
         let began = word;
         for &(word_end, row_end) in &self.ends[first..first + count] {
@@ -91,7 +96,9 @@ pub fn of_f(make_up: MakeUp, most_events: usize, most_words: usize) -> Events<u3
     let make = || match make_up {
         MakeUp::Mixed => make_f::event_of(&make_f::event(&mut rng)),
         MakeUp::Large => make_f::event_of(&largest_blocks(&mut rng)),
-        MakeUp::Smallest => make_f::event_of(&[make_f::stamp(&mut rng), make_f::scaler(&mut rng, 1)]),
+        MakeUp::Smallest => {
+            make_f::event_of(&[make_f::stamp(&mut rng), make_f::scaler(&mut rng, 1)])
+        }
     };
     Events::made(most_events, most_words, make, |words| {
         read_f::rows_of(words).expect("made events are acceptable")

@@ -3,7 +3,7 @@
 use crate::calls::{proved_host, second_host};
 use crate::events::Events;
 use crate::host::HostCall;
-use crate::timing::rounds;
+use crate::timing::{rounds, ROUNDS};
 use std::hint::black_box;
 
 const PROVED: usize = 0;
@@ -12,12 +12,15 @@ const SECOND: usize = 1;
 pub fn table_row(name: &str, events: &Events<u16>, times: usize) {
     let mut calls = Vec::new();
     events.for_each(0, events.count(), |words, _| {
-        calls.push(HostCall { order: 0, bytes: words.iter().flat_map(|word| word.to_le_bytes()).collect() });
+        calls.push(HostCall {
+            order: 0,
+            bytes: words.iter().flat_map(|word| word.to_le_bytes()).collect(),
+        });
     });
     for call in &calls {
         assert_eq!(proved_host(&call.bytes), second_host(call), "answers");
     }
-    let measured = rounds(2, |which| {
+    let measured = rounds(ROUNDS, 2, |which| {
         for call in (0..times).flat_map(|_| &calls) {
             black_box(if which == PROVED { proved_host(&call.bytes) } else { second_host(call) });
         }

@@ -2,7 +2,7 @@
 
 use crate::calls::Calls;
 use crate::events::Events;
-use crate::timing::{rounds, Times};
+use crate::timing::{rounds, Times, ROUNDS};
 use std::hint::black_box;
 
 /// The works of a table, by their places in `Times`.
@@ -21,14 +21,14 @@ struct Room<W> {
     words: Vec<W>,
 }
 
-pub struct Contest<W> {
+pub struct Comparison<W> {
     proved: Calls<W>,
     second: Calls<W>,
 }
 
-impl<W: Copy + Default + PartialEq> Contest<W> {
-    pub fn new(proved: Calls<W>, second: Calls<W>) -> Contest<W> {
-        Contest { proved, second }
+impl<W: Copy + Default + PartialEq> Comparison<W> {
+    pub fn new(proved: Calls<W>, second: Calls<W>) -> Comparison<W> {
+        Comparison { proved, second }
     }
 
     fn room() -> Room<W> {
@@ -69,7 +69,7 @@ impl<W: Copy + Default + PartialEq> Contest<W> {
     /// A table row: the set's make-up, and the times by word and as ratios. The events are gone through `times` times a round.
     pub fn table_row(&self, name: &str, events: &Events<W>, times: usize) {
         let mut room = Self::room();
-        let measured = rounds(WORKS, |which| {
+        let measured = rounds(ROUNDS, WORKS, |which| {
             for _ in 0..times {
                 events.for_each(0, events.count(), |words, rows| {
                     black_box(self.work(which, &mut room, words, rows));
@@ -91,7 +91,9 @@ impl<W: Copy + Default + PartialEq> Contest<W> {
         let mut room = Self::room();
         let mut at = 0;
         let mut words = 0;
-        let measured = rounds(WORKS, |which| {
+        // Short passes differ more from each other.
+        let many = if count < 100_000 { 11 * ROUNDS } else { ROUNDS };
+        let measured = rounds(many, WORKS, |which| {
             if at + count > events.count() {
                 at = 0;
             }
@@ -120,6 +122,7 @@ fn columns(measured: &Times, words: f64) -> String {
         measured.ratio(READ, COPY),
         measured.ratio(WRITE, COPY),
     ];
-    let cells: Vec<String> = ns.iter().map(|time| time / words).chain(ratios).map(|cell| format!("{cell:.2}")).collect();
+    let cells: Vec<String> =
+        ns.iter().map(|time| time / words).chain(ratios).map(|cell| format!("{cell:.2}")).collect();
     cells.join(" | ")
 }

@@ -2,7 +2,7 @@
 
 use crate::base::Words;
 use crate::rng::Rng;
-use crate::timing::rounds;
+use crate::timing::{rounds, ROUNDS};
 use crate::{lines, make_f, make_s};
 use std::fs::File;
 use std::io::{BufWriter, Write};
@@ -51,7 +51,7 @@ pub fn table_row(most_lines: usize, most_bytes: usize) {
     let second = output_of(&SECOND);
     assert!(output_of(&PROVED) == second, "the listings are the same");
     let programs: [&[&str]; 3] = [&PROVED, &SECOND, &COPY];
-    let measured = rounds(3, |which| run(programs[which], Stdio::null()));
+    let measured = rounds(ROUNDS, 3, |which| run(programs[which], Stdio::null()));
     println!(
         "| {count} | {bytes} | {} | {:.1} | {:.2} | {:.2} | {:.2} |",
         second.len(),

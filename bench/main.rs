@@ -46,7 +46,7 @@ mod write_s;
 
 use calls::{PROVED_F, PROVED_S, SECOND_F, SECOND_S};
 use events::{MakeUp, MAKE_UPS};
-use library::Contest;
+use library::Comparison;
 
 /// Bytes of words that fit the second level cache with their rows, and 100 MB of them.
 const CACHED: usize = 64 << 10;
@@ -68,21 +68,25 @@ fn library_tables() {
     for (bytes, times) in [(CACHED, CACHED_TIMES), (LARGE, 1)] {
         for make_up in MAKE_UPS {
             let events = events::of_s(make_up, usize::MAX, bytes / 2);
-            let contest = Contest::new(PROVED_S, SECOND_S);
-            contest.agree(&events);
-            contest.table_row(&format!("S {make_up:?}, {}", size(bytes)), &events, times);
+            let comparison = Comparison::new(PROVED_S, SECOND_S);
+            comparison.agree(&events);
+            comparison.table_row(&format!("S {make_up:?}, {}", size(bytes)), &events, times);
         }
         for make_up in MAKE_UPS {
             let events = events::of_f(make_up, usize::MAX, bytes / 4);
-            let contest = Contest::new(PROVED_F, SECOND_F);
-            contest.agree(&events);
-            contest.table_row(&format!("F {make_up:?}, {}", size(bytes)), &events, times);
+            let comparison = Comparison::new(PROVED_F, SECOND_F);
+            comparison.agree(&events);
+            comparison.table_row(&format!("F {make_up:?}, {}", size(bytes)), &events, times);
         }
     }
 }
 
 fn size(bytes: usize) -> &'static str {
-    if bytes == CACHED { "64 KiB" } else { "100 MB" }
+    if bytes == CACHED {
+        "64 KiB"
+    } else {
+        "100 MB"
+    }
 }
 
 fn growth_tables() {
@@ -91,11 +95,11 @@ fn growth_tables() {
     println!("|---|---|---|---|---|---|---|---|---|---|---|---|");
     let events = events::of_s(MakeUp::Mixed, MANY, usize::MAX);
     for count in [1_000, 10_000, 100_000, MANY] {
-        Contest::new(PROVED_S, SECOND_S).growth_row("S", &events, count);
+        Comparison::new(PROVED_S, SECOND_S).growth_row("S", &events, count);
     }
     let events = events::of_f(MakeUp::Mixed, MANY, usize::MAX);
     for count in [1_000, 10_000, 100_000, MANY] {
-        Contest::new(PROVED_F, SECOND_F).growth_row("F", &events, count);
+        Comparison::new(PROVED_F, SECOND_F).growth_row("F", &events, count);
     }
 }
 

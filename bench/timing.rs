@@ -2,14 +2,15 @@
 
 use std::time::Instant;
 
-const ROUNDS: usize = 9;
+pub const ROUNDS: usize = 9;
 
 /// The times of each work, a list of rounds each, in nanoseconds.
 pub struct Times(Vec<Vec<f64>>);
 
-pub fn rounds(count: usize, mut work: impl FnMut(usize)) -> Times {
+/// Runs so many works, by their places, in so many rounds.
+pub fn rounds(rounds: usize, count: usize, mut work: impl FnMut(usize)) -> Times {
     let mut times = vec![Vec::new(); count];
-    for round in 0..ROUNDS {
+    for round in 0..rounds {
         for place in 0..count {
             let which = (round + place) % count;
             let began = Instant::now();

@@ -1,8 +1,7 @@
 /* Calls the check of dialect S from C.
  *
- *   host             runs the cases below and says whether each answer is document 01's
- *   host FILE        checks the event whose bytes are the file's, in the crossed order
- *   host FILE rising checks it in the rising order
+ *   host                       runs the cases below and says whether each answer is document 01's
+ *   host FILE crossed|rising   checks the event whose bytes are the file's, in that stamp order
  */
 #include <stdio.h>
 #include <stdlib.h>
@@ -10,8 +9,8 @@
 
 #include "s800.h"
 
-/* One byte more than the largest event has. */
-enum { MOST_BYTES = 8193 };
+/* One byte more than the largest event has: enough to be refused. */
+enum { ONE_BYTE_TOO_MANY = 8193 };
 
 /* Document 01's event M, its words low byte first. */
 static const uint8_t M[28] = {
@@ -38,7 +37,7 @@ static int holds(const char *what, uint64_t answer, uint32_t refusal, uint32_t r
     return 0;
 }
 
-/* M with another word k, where that is below 14, followed by `more` bytes of 0. The caller frees it. */
+/* M with another word k, which is below 14, followed by `more` bytes of 0. The caller frees it. */
 static uint8_t *changed(size_t k, uint16_t word, size_t more) {
     uint8_t *bytes = calloc(sizeof M + more, 1);
     if (bytes == NULL) {
@@ -91,7 +90,7 @@ static int spoken_words(void) {
 }
 
 static int edges(void) {
-    uint8_t *large = calloc(MOST_BYTES, 1);
+    uint8_t *large = calloc(ONE_BYTE_TOO_MANY, 1);
     if (large == NULL) {
         exit(EXIT_FAILURE);
     }
@@ -100,15 +99,14 @@ static int edges(void) {
     good &= holds("order 2", s800_check(M, sizeof M, 2), 31, 0);
     good &= holds("order 2^32 - 1", s800_check(M, sizeof M, UINT32_MAX), 31, 0);
     good &= holds("order 2, 27 bytes", s800_check(M, 27, 2), 31, 0);
-    good &= holds("8,192 bytes", s800_check(large, MOST_BYTES - 1, S800_RISING), 2, 0);
-    good &= holds("8,193 bytes", s800_check(large, MOST_BYTES, S800_RISING), 1, 0);
+    good &= holds("8,192 bytes", s800_check(large, ONE_BYTE_TOO_MANY - 1, S800_RISING), 2, 0);
+    good &= holds("8,193 bytes", s800_check(large, ONE_BYTE_TOO_MANY, S800_RISING), 1, 0);
     free(large);
     return good;
 }
 
 static int check_file(const char *name, uint32_t order) {
-    /* One byte more than fits an event is enough to be refused. */
-    static uint8_t bytes[MOST_BYTES];
+    static uint8_t bytes[ONE_BYTE_TOO_MANY];
     FILE *file = fopen(name, "rb");
     if (file == NULL) {
         perror(name);
@@ -127,15 +125,18 @@ static int check_file(const char *name, uint32_t order) {
 }
 
 int main(int count, char **arguments) {
-    int good;
-    if (count < 2) {
+    int good = 0;
+    if (count == 1) {
         good = spoken_cases();
         good &= spoken_words();
         good &= edges();
         printf(good ? "every answer is document 01's\n" : "an answer is wrong\n");
+    } else if (count == 3 && strcmp(arguments[2], "crossed") == 0) {
+        good = check_file(arguments[1], S800_CROSSED);
+    } else if (count == 3 && strcmp(arguments[2], "rising") == 0) {
+        good = check_file(arguments[1], S800_RISING);
     } else {
-        int rising = count > 2 && strcmp(arguments[2], "rising") == 0;
-        good = check_file(arguments[1], rising ? S800_RISING : S800_CROSSED);
+        fprintf(stderr, "usage: host [FILE crossed|rising]\n");
     }
     return good ? EXIT_SUCCESS : EXIT_FAILURE;
 }

@@ -1,7 +1,7 @@
-/* The check of one S800 event, version 5, for an analysis in C or C++: document 01's dialect S.
+/* The check of one S800 event, version 5, for an analysis in C or C++ (docs/FORMATS.md, dialect S).
  *
- * Link with libhost.a (rt staticlib host writes target/staticlib/libhost.a). The call keeps no state and needs no
- * heap: any thread may make it. It takes about 8 KiB of stack, for the words of the largest event.
+ * Link with libhost.a, for x86-64 Linux: examples/build-host makes target/staticlib/libhost.a. Of the C library it
+ * needs memcpy and memset. The call keeps no state and takes no heap; its stack is less than 9 KiB.
  */
 #ifndef S800_H
 #define S800_H
@@ -13,16 +13,16 @@
 extern "C" {
 #endif
 
-/* The order of the four stamp chunks. The answer does not depend on it: it says how the rows would be read. */
+/* The order of the four stamp chunks. Both give the same answer: the order decides how the rows would be read. */
 enum { S800_CROSSED = 0, S800_RISING = 1 };
 
 /* Checks the event in `length` bytes, each word's low byte first. Any bytes may come in, of any length, also none
  * (`bytes` may then be null). It only reads them.
  *
  * The answer is the number of rows that a reading gives, at least 4 and at most 4,096; or 2^32 times a refusal number
- * plus its place, the index of the first word that breaks a rule, from 0. The refusals are 31 (place 0) for an order
- * that is neither 0 nor 1, tested first; 1 (place 0) for an odd number of bytes, and for fewer than 28 or more than
- * 8,192; and 2 to 11 of document 01's table (docs/REFUSALS.md). */
+ * plus its place, the index of a word, from 0. The refusals are 31 (place 0) for an order that is neither 0 nor 1,
+ * tested first; 1 (place 0) for an odd number of bytes, and for fewer than 28 or more than 8,192; and 2 to 11 of the
+ * table in docs/REFUSALS.md, which says of each what its place is. */
 uint64_t s800_check(const uint8_t *bytes, size_t length, uint32_t order);
 
 /* The refusal number of an answer, 0 where the event is accepted. */

@@ -1,6 +1,7 @@
 //! `check`: 01's listing, its twelve spoken cases, the line rules, the stored inputs.
 
 use crate::base::{Order, Refusal, Row, Words};
+use crate::host::{self, HostCall};
 use crate::lines::{self, LONGEST_LINE, MOST_LINES};
 use crate::tally::{Source, Tally};
 use crate::{check_made, edges_order, stored, vectors};
@@ -22,6 +23,7 @@ pub fn run() -> Result<(), String> {
     check_spoken()?;
     check_lines()?;
     check_orders()?;
+    check_host()?;
     check_stored()?;
     check_made::run()?;
     println!("all checks hold");
@@ -114,6 +116,23 @@ fn check_lines() -> Result<(), String> {
         ensure(is_30, &format!("refusal 30 for {line:?}"))?;
     }
     Ok(())
+}
+
+/// The host call: 31 first, then an odd byte count, then the reading's answer.
+fn check_host() -> Result<(), String> {
+    let Ok(Words::S(words)) = lines::words_of_line(M.as_bytes()) else {
+        return Err("check failed: M is a line of words".to_string());
+    };
+    let bytes: Vec<u8> = words.iter().flat_map(|word| word.to_le_bytes()).collect();
+    let answer =
+        |order, bytes: &[u8]| host::packed(HostCall { order, bytes: bytes.to_vec() }.answer());
+    ensure(answer(0, &bytes) == 4 && answer(1, &bytes) == 4, "the host call of M")?;
+    ensure(answer(2, &bytes[1..]) == 31 << 32, "31 before an odd byte count")?;
+    ensure(answer(u32::MAX, &bytes) == 31 << 32, "order 2^32 - 1")?;
+    ensure(answer(1, &bytes[1..]) == 1 << 32 && answer(0, &[]) == 1 << 32, "1 at 0")?;
+    let mut case_4 = bytes;
+    case_4[6] = 0x0b;
+    ensure(answer(0, &case_4) == 7 << 32 | 3, "case 4 by the host call")
 }
 
 /// Events that break two rules at once get the refusal that comes first.

@@ -97,7 +97,8 @@ fn damage(rng: &mut Rng, bytes: &mut Vec<u8>) {
 /// No bytes, one, the sizes about the smallest and the largest event, with each order at an edge.
 pub fn edges() -> Vec<HostCall> {
     let mut rng = Rng::new(1);
-    let event = make_s::event_of(&[make_s::stamp_packet(&mut rng), make_s::event_number_packet(&mut rng)]);
+    let event =
+        make_s::event_of(&[make_s::stamp_packet(&mut rng), make_s::event_number_packet(&mut rng)]);
     let filling = vec![0; read_s::LARGEST_EVENT - event.len() - 2];
     let packets = [event[3..9].to_vec(), event[9..].to_vec(), make_s::packet(0x5830, &filling)];
     let largest = bytes_of(&make_s::event_of(&packets));
@@ -115,4 +116,13 @@ pub fn edges() -> Vec<HostCall> {
         }
     }
     calls
+}
+
+/// The edges and some random calls, as lines of text.
+pub fn calls_text() -> Vec<u8> {
+    let mut rng = Rng::new(1);
+    let mut text = Vec::new();
+    edges().iter().for_each(|call| call.push_text(&mut text));
+    (0..300).for_each(|_| random(&mut rng).push_text(&mut text));
+    text
 }

@@ -34,10 +34,16 @@ static ssize_t bytes_of(char *text, size_t size) {
 }
 
 static int answer_line(char *line, size_t size) {
-    char *end = line;
-    unsigned long order = size > 9 ? strtoul(line, &end, 16) : 0;
-    if (end != line + 8 || line[8] != ' ') {
+    uint32_t order = 0;
+    if (size < 10 || line[8] != ' ') {
         return 0;
+    }
+    for (size_t i = 0; i < 8; i++) {
+        int value = digit(line[i]);
+        if (value < 0) {
+            return 0;
+        }
+        order = order * 16 + (uint32_t)value;
     }
     ssize_t count = bytes_of(line + 9, size - 9);
     if (count < 0) {
@@ -51,7 +57,7 @@ static int answer_line(char *line, size_t size) {
         }
         memcpy(bytes, line + 9, (size_t)count);
     }
-    printf("%016" PRIx64 "\n", s800_check(bytes, (size_t)count, (uint32_t)order));
+    printf("%016" PRIx64 "\n", s800_check(bytes, (size_t)count, order));
     free(bytes);
     return 1;
 }

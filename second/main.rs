@@ -38,6 +38,7 @@ use std::process::ExitCode;
 const USAGE: &str = "usage: second list [crossed|rising]
        second answer
        second stored lines|vectors
+       second hosts
        second met lines|vectors
        second compare --seed N --events N [--list-events PATH] [--run-vectors PATH] [--host-calls PATH]
        second check";
@@ -51,6 +52,7 @@ fn main() -> ExitCode {
         ["answer"] => answer(),
         ["stored", "lines"] => put_out(&stored::lines()),
         ["stored", "vectors"] => put_out(&stored::vectors()),
+        ["hosts"] => put_out(&host::calls_text()),
         ["met", "lines"] => met_lines(),
         ["met", "vectors"] => met_vectors(),
         ["compare", options @ ..] => settings(options).and_then(|s| compare::run(&s)),

@@ -1,4 +1,5 @@
-// The calls that bench/ times, in C's calling convention. A reading into no rows is the check alone: it answers 12, at the rows needed.
+// The calls that bench/ times, in C's calling convention. Each answers the count, or the place of a refusal, so that the two are not told apart. A reading
+// into no rows is the check alone: its answer is then the rows needed, the place of 12.
 use event::Answer;
 ghost use mathlib.Core.Path.{_≡_};
 ghost use lib.ListN.{length};

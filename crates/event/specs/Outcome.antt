@@ -16,7 +16,7 @@ use Rattle.event.specs.Parser.{Result, ok, refuse}
 abbrev pub defaultOrder : StampOrder
 defaultOrder = stamp.Crossed
 
--- the stamp order of a number: 0 is crossed, 1 rising (others are refused by 31)
+-- the stamp order of a number: 0 is crossed, any other rising (the host call refuses those above 1 first, by 31)
 abbrev pub orderOf : ℕ → StampOrder
 orderOf n = cond (eqb n 0) stamp.Crossed stamp.Rising
 

@@ -41,7 +41,7 @@ pub fn default_order() -> StampOrder
     StampOrder::Crossed
 }
 
-// The stamp order of a number: 0 is crossed, 1 rising. (Whoever takes a number refuses others by 31.)
+// The stamp order of a number: 0 is crossed, any other rising. (The host call refuses those above 1 first, by 31.)
 pub fn order_of(number: u32) -> StampOrder
     ensures { λ r. ⌜ r ≡ orderOf number ⌝ }
 {

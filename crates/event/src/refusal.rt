@@ -1,6 +1,6 @@
 // The refusal numbers of document 01: of a reading 1 to 12, of a writing 20 to 24, of a hexadecimal line 30 and 24, of a host's call 31.
 
-// The event has too few or too many words.
+// The event has too few or too many words; in a host's call also an odd number of bytes.
 pub const SIZE: u32 = 1;
 // S: word 0 is not the event's length.
 pub const EVENT_LENGTH: u32 = 2;

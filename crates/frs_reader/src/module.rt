@@ -1,4 +1,4 @@
-// One module, up to its data longwords.
+// One module: what its header leads to, and the rows of its data longwords.
 use crate::Opened;
 use crate::longword::channel_of;
 use crate::longword::flag_of;

@@ -1,6 +1,6 @@
 -- The check of dialect S on bytes, for a host analysis written in C (document 01, end of 'What a reading says no with').
 -- Assumes nothing.
-use Prim.Native.Nat.{ℕ, _+_, _*_, _/_, _%_, _^_, _≤_}
+use Prim.Native.Nat.{ℕ, _+_, _*_, _/_, _%_, _^_, _≤_, _<_}
 use mathlib.Core.Path.{_≡_}
 use mathlib.Core.Bool.{cond}
 use mathlib.Core.List.{List, [], _∷_}
@@ -30,13 +30,28 @@ abbrev pub packed : Answer → ℕ
 packed (Accepted n) = n
 packed (Refused n k) = 2 ^ 32 * n + k
 
+-- what the host gets
 abbrev pub hostAnswer : List ℕ → ℕ → ℕ
 hostAnswer bytes order = packed (answerOf (checking bytes order))
 
 -- The host takes the number apart again: the upper 32 bits are 0 exactly where the event is accepted, and else the refusal number; the lower are the rows, or the place.
+-- An event has 4 to 4,096 rows.
 abbrev pub Apart : ℕ → Answer → Type 0
-Apart r (Accepted n) = (r / 2 ^ 32 ≡ 0) × (r % 2 ^ 32 ≡ n)
+Apart r (Accepted n) = (4 ≤ n) × (n ≤ 4096) × (r / 2 ^ 32 ≡ 0) × (r % 2 ^ 32 ≡ n)
 Apart r (Refused n k) = (1 ≤ n) × (r / 2 ^ 32 ≡ n) × (r % 2 ^ 32 ≡ k)
 
 abbrev pub TakenApart : Type 0
 TakenApart = (bytes : List ℕ) (order : ℕ) → Apart (hostAnswer bytes order) (answerOf (checking bytes order))
+
+-- Both stamp orders give the same answer.
+abbrev pub OrderIndifferent : Type 0
+OrderIndifferent = (bytes : List ℕ) → hostAnswer bytes 0 ≡ hostAnswer bytes 1
+
+-- For private functions: a refusal's place has 32 bits; a refusal as one number, and 0 for an answer that is none.
+abbrev pub In32 : Answer → Type 0
+In32 (Accepted n) = Unit {0}
+In32 (Refused n k) = k < 2 ^ 32
+
+abbrev pub packedRefusal : Answer → ℕ
+packedRefusal (Accepted n) = 0
+packedRefusal (Refused n k) = packed (Refused n k)

@@ -3,13 +3,13 @@ use event::Answer;
 use event::StampOrder;
 use event::order_of;
 use event::refusal;
-ghost use Prim.Native.Nat.{_+_, _*_, _/_, _≤_, _<_, _^_};
+ghost use Prim.Native.Nat.{_+_, _*_, _/_, _≤_};
 ghost use mathlib.Core.Path.{_≡_};
 ghost use lib.ListN.{length};
 ghost use denote.Ref.{now};
 ghost use Rattle.event.specs.Outcome.{answerOf, overlaid};
 ghost use Rattle.s800_layout.specs.Reading.{reading};
-ghost use Rattle.host.specs.Check.{wordsOf, packed, hostAnswer};
+ghost use Rattle.host.specs.Check.{wordsOf, packed, packedRefusal, In32, hostAnswer};
 
 // The rows of the event in these bytes, low byte first, or 2^32 times a refusal number plus its place. Any bytes and any order may come in.
 #[no_mangle]
@@ -17,43 +17,65 @@ pub extern "C" fn s800_check(bytes: &[u8], order: u32) -> u64
     ensures { λ r. ⌜ r ≡ hostAnswer (now (bytes .entry)) order ⌝ }
 {
     if 1 < order {
-        return refused(refusal::ORDER, 0);
+        return packed_refusal(Answer::Refused {
+            number: refusal::ORDER,
+            place: 0,
+        });
     }
     if bytes.len() % 2 != 0 {
-        return refused(refusal::SIZE, 0);
+        return packed_refusal(Answer::Refused {
+            number: refusal::SIZE,
+            place: 0,
+        });
     }
     let size = bytes.len() / 2;
     // More words than any event has: the reading's own answer, whatever they are.
     if s800_format::LARGEST_EVENT < size {
-        return refused(refusal::SIZE, 0);
+        return packed_refusal(Answer::Refused {
+            number: refusal::SIZE,
+            place: 0,
+        });
     }
     let mut words = [0u16; s800_format::LARGEST_EVENT];
     store_words(bytes, &mut words);
-    check(&words[..size], order_of(order))
+    packed(check(&words[..size], order_of(order)))
 }
 
 // Checks by a reading into no room: where all else holds it is 12, at the rows needed.
-fn check(words: &[u16], order: StampOrder) -> u64
-    requires { ⌜ length (now words) ≤ 4096 ⌝ }
-    ensures { λ r. ⌜ r ≡ packed (answerOf (reading order (now (words .entry)))) ⌝ }
+fn check(words: &[u16], order: StampOrder) -> Answer
+    ensures { λ r. ⌜ r ≡ answerOf (reading order (now (words .entry))) ⌝ }
 {
     let mut none: [u32; 0] = [];
     let answer = s800::read(words, order, &mut none);
     let Answer::Refused { number, place } = answer else {
-        return 0;
+        return answer;
     };
     if number == refusal::ROOM {
-        return place as u64;
+        return Answer::Accepted(place);
     }
-    refused(number, place)
+    answer
 }
 
-// A refusal as one number.
-fn refused(number: u32, place: usize) -> u64
-    requires { ⌜ place < 2 ^ 32 ⌝ }
-    ensures { λ r. ⌜ r ≡ 2 ^ 32 * number + place ⌝ }
+// The answer as one number: the rows, or the refusal.
+fn packed(answer: Answer) -> u64
+    requires { ⌜ In32 answer ⌝ }
+    ensures { λ r. ⌜ r ≡ packed answer ⌝ }
 {
-    0x1_0000_0000 * number as u64 + place as u64
+    let Answer::Accepted(rows) = answer else {
+        return packed_refusal(answer);
+    };
+    rows as u64
+}
+
+// A refusal as one number; 0 for an answer that is none.
+fn packed_refusal(answer: Answer) -> u64
+    requires { ⌜ In32 answer ⌝ }
+    ensures { λ r. ⌜ r ≡ packedRefusal answer ⌝ }
+{
+    if let Answer::Refused { number, place } = answer {
+        return 0x1_0000_0000 * number as u64 + place as u64;
+    }
+    0
 }
 
 // Stores the words of the bytes.

@@ -106,7 +106,7 @@ fn store_pair(words: &mut [u16], at: usize, energy: Row, time: Row)
     store_word16(words, at + 1, (high + time.datum) as usize);
 }
 
-// Samples up to the anode.
+// Samples up to the anode. A good sample is neither the anode's row nor past the last one, so the end is looked for only where a row is no sample.
 pub(crate) fn write_samples(rows: &[u32], from: usize, words: &mut [u16], first: usize) -> Part
     requires { ⌜ RunAt (rowsIn (now rows)) from first ⌝ }
     ensures { λ r. ⌜ Writes 16 (each sampleWords) (several sample (atKind 9) from (drop from (rowsIn (now (rows .entry))))) (rowsIn (now (rows .entry))) first (now (words .entry)) r (now (words .exit)) ⌝ }
@@ -133,6 +133,7 @@ fn store_sample(words: &mut [u16], at: usize, row: Row)
     requires { ⌜ (at + 1 < 2 ^ 64) × (row .unit ≤ 511) × (row .channel ≤ 255) × (row .datum ≤ 1023) ⌝ }
     ensures { λ _. ⌜ now (words .exit) ≡ storeWords 16 (now (words .entry)) at (sampleWords (sampleOf row)) ⌝ }
 {
+    // Neither word fits: the pass that counts.
     if words.len() <= at {
         return;
     }

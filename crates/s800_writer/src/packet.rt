@@ -30,7 +30,7 @@ ghost use Rattle.s800_writer.specs.Packets.{idCount, headerFault, Writes
 const IDS: [u32; 16] = [0, 1, 1, 1, 2, 1, 1, 1, 1, 1, 1, 3, 4, 0, 0, 0];
 
 // How many ids a packet with this tag may have: 1 where it has none (0 stands in its own row), 0 for a tag of no packet. It is looked up, since packets
-// of many tags follow each other in no order that a processor could foresee at a branch.
+// of many tags follow each other in no order that a processor could predict at a branch.
 fn id_count(tag: u32) -> u32
     ensures { λ r. ⌜ r ≡ idCount tag ⌝ }
 {
