@@ -36,9 +36,23 @@ pub extern "C" fn s800_check(bytes: &[u8], order: u32) -> u64
             place: 0,
         });
     }
+    // Most events are short, and the words of a short one are soon cleared.
+    if size <= 256 {
+        let mut words = [0u16; 256];
+        return check_bytes(bytes, order_of(order), &mut words);
+    }
     let mut words = [0u16; s800_format::LARGEST_EVENT];
-    store_words(bytes, &mut words);
-    packed(check(&words[..size], order_of(order)))
+    check_bytes(bytes, order_of(order), &mut words)
+}
+
+// The answer to a check of the bytes, by way of their words, as one number.
+fn check_bytes(bytes: &[u8], order: StampOrder, words: &mut [u16]) -> u64
+    requires { ⌜ (length (now bytes) / 2 ≤ length (now words)) × (length (now bytes) / 2 ≤ 4096) ⌝ }
+    ensures { λ r. ⌜ r ≡ packed (answerOf (reading order (wordsOf (now (bytes .entry))))) ⌝ }
+{
+    let size = bytes.len() / 2;
+    store_words(bytes, words);
+    packed(check(&words[..size], order))
 }
 
 // Checks by a reading into no room: where all else holds it is 12, at the rows needed.
