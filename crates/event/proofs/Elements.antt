@@ -33,8 +33,11 @@ both false b t = absurd t
 pub bounds : (least most n : ℕ) → T (between least most n) → (least ≤ n) × (n ≤ most)
 bounds least most n t = let h = both (leb least n) (leb n most) t in (leb→le least n (h .0), leb→le n most (h .1))
 
+pub is-between : (least most n : ℕ) → least ≤ n → n ≤ most → between least most n ≡ true
+is-between least most n a b = rw (le-leb least n a, le-leb n most b)
+
 pub in-between : (least most n : ℕ) → least ≤ n → n ≤ most → T (between least most n)
-in-between least most n a b = rw (le-leb least n a, le-leb n most b) tt
+in-between least most n a b = rw (is-between least most n a b) tt
 
 pub prints-map : {E St A : Type 0} (f : A → E) (next : St → A → St) (st : St) (xs : List A) → prints (λ t a. f a ∷ []) next st xs ≡ map f xs
 prints-map f next st [] = refl

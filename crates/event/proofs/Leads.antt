@@ -6,8 +6,10 @@ use mathlib.Core.Path.{_≡_, refl, ap, sym, _∙_}
 use mathlib.Core.List.{List, [], _∷_, _++_}
 use lib.ListN.{length, length-append}
 use Rattle.event.specs.declared.Answer.the-variants.{Accepted, Refused}
-use Rattle.event.specs.Parser.{Result, ok, refuse, then, give}
-use Rattle.event.specs.Scanning.{Scan, stores, answering, ScannedBy, LeadsBy}
+use Rattle.event.specs.declared.Part.{Part}
+use Rattle.event.specs.declared.Part.the-variants as part
+use Rattle.event.specs.Parser.{Result, ok, refuse, Parser, then, give}
+use Rattle.event.specs.Scanning.{Scan, stores, answering, ScannedBy, LeadsBy, BegunBy, BeginsBy}
 use Rattle.event.proofs.Impossible.{impossible}
 
 pub leads-refl : {X R E A : Type 0} {scan : Scan X R} {f : A → List X} {x : Result E A} {k : ℕ} {b : List ℕ} → LeadsBy scan f x k b f x k b
@@ -85,3 +87,12 @@ leads-done {X} {R} {E} {A} {B} {scan} f {x} {a} {j} {r} {f₀} {x₀} {k} {k₀}
       let q : l ≡ b = t .stored ∙ ap (stores (scan .store) b k) n in
       rw (p, q) s;
 })
+
+-- an event whose beginning is refused, or done
+module _ {X R E A A₀ : Type 0} {scan : Scan X R} {f : A → List X} {rest : Parser E A} {f₀ : A₀ → List X} {x₀ : Result E A₀} {input : List E}
+    {k₀ : ℕ} {before b : List ℕ} {r : Part} (s : BeginsBy scan f rest f₀ x₀ input k₀ before b r) where
+  pub begins-refused : {n p : ℕ} → r ≡ part.Refused n p → x₀ ≡ refuse n p
+  begins-refused q = (rw q at s) .begun
+
+  pub begins-done : {at k : ℕ} → r ≡ part.Done at k → BegunBy scan f rest f₀ x₀ input k₀ before b at k
+  begins-done q = (rw q at s) .begun

@@ -12,6 +12,7 @@ pub mod Join
 pub mod Leads
 pub mod Turns
 pub mod ChannelLaws
+pub mod ChannelTurns
 pub mod Stores
 pub mod Loops
 pub mod Refusals

@@ -71,6 +71,13 @@ Reached item next = ReachedBy reading (upToStop ended item next)
 pub at-word : (ws : List ℕ) (i end : ℕ) → i < end → end ≤ length ws → slice i end ws ≡ getD ws i 0 ∷ slice (suc i) end ws
 at-word ws i end h l = slice-cons i end ws 0 h l
 
+pub three-words : (ws : List ℕ) (i : ℕ) → i + 3 ≤ length ws → slice i (i + 3) ws ≡ getD ws i 0 ∷ getD ws (i + 1) 0 ∷ getD ws (i + 2) 0 ∷ []
+three-words ws i l =
+    let one : suc i ≡ i + 1 = omega arith in
+    let two : suc (i + 1) ≡ i + 2 = omega arith in
+    let three : suc (i + 2) ≡ i + 3 = omega arith in
+    at-word ws i (i + 3) (omega arith) l ∙ rw (one, at-word ws (i + 1) (i + 3) (omega arith) l, two, at-word ws (i + 2) (i + 3) (omega arith) l, three, slice-empty (i + 3) ws)
+
 goes-on : (ws : List ℕ) (i end : ℕ) → i < end → end ≤ length ws → ended (slice i end ws) ≡ false
 goes-on ws i end h l = rw (at-word ws i end h l)
 

@@ -5,7 +5,7 @@ use mathlib.Core.List.{List, [], _∷_}
 use lib.ListN.{length, replicate}
 use Rattle.event.specs.declared.Answer.{Answer}
 use Rattle.event.specs.declared.Row.{Row}
-use Rattle.event.specs.Outcome.{Outcome, answerOf, given, overlaid}
+use Rattle.event.specs.Outcome.{Outcome, answerOf, given, overlaid, inRoom, inWordRoom}
 use Rattle.event.specs.Rows.{row, flat, room}
 
 -- n words from w on, each larger by d than the one before
@@ -28,15 +28,15 @@ pub record Left : Type 0 where
   pub buffer : List ℕ
 
 -- a reading into room for so many rows
-abbrev pub readInto : (ℕ → List ℕ → Outcome Row) → Lent → Left
-readInto into l =
-    let x = into (room (length (l .buffer))) (l .input) in
+abbrev pub readInto : (List ℕ → Outcome Row) → Lent → Left
+readInto reading l =
+    let x = inRoom (room (length (l .buffer))) (reading (l .input)) in
     record { answer = answerOf x; buffer = overlaid (flat (given x)) (l .buffer) }
 
 -- a writing into room for so many words
-abbrev pub writeInto : (ℕ → List ℕ → Outcome ℕ) → Lent → Left
-writeInto into l =
-    let x = into (length (l .buffer)) (l .input) in
+abbrev pub writeInto : (List ℕ → Outcome ℕ) → Lent → Left
+writeInto writing l =
+    let x = inWordRoom (length (l .buffer)) (writing (l .input)) in
     record { answer = answerOf x; buffer = overlaid (given x) (l .buffer) }
 
 -- a buffer of n elements

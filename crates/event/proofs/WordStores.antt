@@ -5,15 +5,20 @@ use native.Mathlib.Nat.{zero-add, mod-eq-of-lt, le-of-eq}
 use native.Mathlib.Numerals.{add-one}
 use native.Mathlib.Omega.{arith}
 use mathlib.Core.Path.{_≡_, refl, sym, ap, _∙_}
-use mathlib.Core.List.{List, [], _∷_, _++_, append-nil}
+use mathlib.Core.List.{List, [], _∷_, _++_, append-nil, append-assoc}
 use lib.Dec.{ltb→lt}
-use lib.ListN.{length, take, drop, set, length-set, length-drop, drop-of-length-le}
-use lib.Seq.{set-comm, set-out, sets, sets-eq, take-all}
+use lib.ListN.{length, getD, take, drop, set, length-set, length-drop, drop-of-length-le}
+use lib.Seq.{set-comm, set-out, set-at, sets, sets-eq, take-all, drop-cons}
 use borrow.Rule.Slice.PartMut.{putMid}
 use Rattle.event.specs.Words.{storeWord}
 use Rattle.event.specs.Outcome.{overlaid}
 use Rattle.event.specs.Demands.{InWidth}
 use Rattle.event.specs.Scanning.{storeWords}
+
+-- one more element stored behind a list that is written so far
+pub store-next : (ws out : List ℕ) (k v : ℕ) → length ws ≡ k → k < length out
+    → set (ws ++ drop k out) k v ≡ (ws ++ (v ∷ [])) ++ drop (k + 1) out
+store-next ws out k v e h = rw (add-one, drop-cons out k 0, append-assoc, set-at ws (getD out k 0) (drop (suc k) out) v k e)
 
 module _ (width : ℕ) where
   length-stored : (b : List ℕ) (i w : ℕ) → length (storeWord width b i w) ≡ length b

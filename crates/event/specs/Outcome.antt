@@ -1,7 +1,7 @@
 -- The outcome of a reading (rows), a writing or a line (words), and how a lent buffer and the answer follow from it.
 -- Assumes nothing.
 use Prim.Native.Nat.{ℕ}
-use mathlib.Core.Bool.{cond}
+use mathlib.Core.Bool.{Bool, true, false, cond}
 use mathlib.Core.List.{List, [], _++_}
 use lib.Dec.{leb, eqb}
 use lib.ListN.{length, drop}
@@ -50,6 +50,20 @@ given (refused n k) = []
 abbrev pub answerOf : {A : Type 0} → Outcome A → Answer
 answerOf (done xs) = answer.Accepted (length xs)
 answerOf (refused n k) = answer.Refused n k
+
+-- An answer in document 01's numbers, for each of its cases: whether it accepts; the refusal number, 0 where there is none; the rows or words given, or the place of
+-- the refusal.
+abbrev pub accepted : Answer → Bool
+accepted (answer.Accepted n) = true
+accepted (answer.Refused n k) = false
+
+abbrev pub refusalNumber : Answer → ℕ
+refusalNumber (answer.Accepted n) = 0
+refusalNumber (answer.Refused n k) = n
+
+abbrev pub countOrPlace : Answer → ℕ
+countOrPlace (answer.Accepted n) = n
+countOrPlace (answer.Refused n k) = k
 
 -- the lent buffer afterwards: only the elements given are written, none on refusal
 abbrev pub overlaid : List ℕ → List ℕ → List ℕ

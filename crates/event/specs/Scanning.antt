@@ -4,13 +4,13 @@
 use Prim.Native.Nat.{ℕ, _+_, _*_, _≤_}
 use mathlib.Core.Path.{_≡_}
 use mathlib.Core.List.{List, [], _∷_}
-use lib.ListN.{length}
+use lib.ListN.{length, drop}
 use Rattle.event.specs.declared.Answer.{Answer}
 use Rattle.event.specs.declared.Answer.the-variants as answer
 use Rattle.event.specs.declared.Part.{Part}
 use Rattle.event.specs.declared.Part.the-variants as part
 use Rattle.event.specs.declared.Row.{Row}
-use Rattle.event.specs.Parser.{Result, ok, refuse}
+use Rattle.event.specs.Parser.{Result, ok, refuse, Parser}
 use Rattle.event.specs.Rows.{storeRow}
 use Rattle.event.specs.Words.{storeWord}
 
@@ -68,6 +68,23 @@ module _ {X R E A : Type 0} (scan : Scan X R) (itemsOf : A → List X) where
 pub record LeadsBy {X R E A A₀ : Type 0} (scan : Scan X R) (itemsOf : A → List X) (x : Result E A) (k : ℕ) (buffer : List ℕ)
     (itemsOf₀ : A₀ → List X) (x₀ : Result E A₀) (k₀ : ℕ) (buffer₀ : List ℕ) : Type 0 where
   pub leads : (result : R) (after : List ℕ) → ScannedBy scan itemsOf x k buffer result after → ScannedBy scan itemsOf₀ x₀ k₀ buffer₀ result after
+
+-- The beginning of an event: x₀ is what a parser gives for the event, `rest` the parser of what follows the beginning.
+module _ {X R E A A₀ : Type 0} (scan : Scan X R) (itemsOf : A → List X) (rest : Parser E A) (itemsOf₀ : A₀ → List X) (x₀ : Result E A₀) (input : List E)
+    (k₀ : ℕ) (before after : List ℕ) where
+  -- it ends at `at` with k items in the buffer: the scan of what follows ends as that of the event does
+  pub record BegunBy (at k : ℕ) : Type 0 where
+    pub inside : at ≤ length input
+    pub few : k ≤ scan .most at
+    pub leads : LeadsBy scan itemsOf (rest at (drop at input)) k after itemsOf₀ x₀ k₀ before
+
+  -- it ends so, or is refused, and the event with it
+  abbrev Begun : Part → Type 0
+  Begun (part.Done at k) = BegunBy at k
+  Begun (part.Refused n p) = x₀ ≡ refuse n p
+
+  pub record BeginsBy (r : Part) : Type 0 where
+    pub begun : Begun r
 
 -- of rows that are read
 abbrev pub Scanned : {E A : Type 0} → (A → List Row) → Result E A → ℕ → List ℕ → Answer → List ℕ → Type 0

@@ -6,7 +6,7 @@ pub mod rows;
 pub mod words;
 
 ghost use mathlib.Core.Path.{_≡_};
-ghost use Rattle.event.specs.Outcome.{defaultOrder, orderOf};
+ghost use Rattle.event.specs.Outcome.{defaultOrder, orderOf, accepted, refusalNumber, countOrPlace};
 
 // A row of an event (document 01, 'Rows').
 pub struct Row {
@@ -26,6 +26,36 @@ pub enum StampOrder {
 pub enum Answer {
     Accepted(usize),
     Refused { number: u32, place: usize },
+}
+
+// Whether an answer accepts.
+pub fn accepts(answer: Answer) -> bool
+    ensures { λ r. ⌜ r ≡ accepted answer ⌝ }
+{
+    match answer {
+        Answer::Accepted(_) => true,
+        Answer::Refused { .. } => false,
+    }
+}
+
+// The refusal number of an answer, 0 where it accepts.
+pub fn refusal_number(answer: Answer) -> u32
+    ensures { λ r. ⌜ r ≡ refusalNumber answer ⌝ }
+{
+    match answer {
+        Answer::Accepted(_) => 0,
+        Answer::Refused { number, .. } => number,
+    }
+}
+
+// The rows or words given, or the place of the refusal.
+pub fn count_or_place(answer: Answer) -> usize
+    ensures { λ r. ⌜ r ≡ countOrPlace answer ⌝ }
+{
+    match answer {
+        Answer::Accepted(count) => count,
+        Answer::Refused { place, .. } => place,
+    }
 }
 
 // A part of an event: the place after it, and the number of rows (or words) given up to there; or a refusal number and its place.

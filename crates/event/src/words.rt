@@ -22,7 +22,7 @@ pub fn store_word32(words: &mut [u32], at: usize, word: u32)
     }
 }
 
-// Where the part of `length` words that begins at `at` starts: past the end it is empty.
+// The place `at`, or the end where `at` lies past it: where a part of `length` words starts that is empty past the end, or where one of the first words ends.
 pub fn part_start(at: usize, length: usize) -> usize
     ensures { λ r. ⌜ r ≡ min at length ⌝ }
 {

@@ -1,4 +1,4 @@
--- Writings of dialect F at the edges of its tables, computed. The expected outcomes are document 01's. (23 is none of them: 4 + 34 + 4 + 30 × 34 longwords are the most that rows can ask for.)
+-- Writings of dialect F at the edges of its tables, computed (those of the largest event: crate frs_sizes). The expected outcomes are document 01's. (23 is none of them: 4 + 34 + 4 + 30 × 34 longwords are the most that rows can ask for.)
 -- Assumes nothing.
 use Prim.Native.Nat.{ℕ, _+_, _*_, _^_}
 use mathlib.Core.Path.{_≡_, refl}
@@ -36,19 +36,15 @@ abbrev noAt : (at : ℕ) → Row → (number place : ℕ) → Vector
 noAt i r n k = vector (flat (set (f []) i r)) (refused n k)
 
 -- the row of case 10's stamp with these after it, rows 1 and on, has the stamp's longwords and these, or is refused
-abbrev okScaler : List Row → List ℕ → Vector
+abbrev pub okScaler : List Row → List ℕ → Vector
 okScaler more words = vector (flat (row 16 0x17ff 0x38e1 0x0563 ∷ more)) (done (0x00000200 ∷ 0x00f717ff ∷ 0x01f738e1 ∷ 0x02f70563 ∷ words))
 
-abbrev noScaler : List Row → (number place : ℕ) → Vector
+abbrev pub noScaler : List Row → (number place : ℕ) → Vector
 noScaler more n k = vector (flat (row 16 0x17ff 0x38e1 0x0563 ∷ more)) (refused n k)
 
 -- a module with channel 0 alone
-abbrev one : (g : ℕ) → List Row
+abbrev pub one : (g : ℕ) → List Row
 one g = row 21 g 1 0 ∷ row 22 g 0 0 ∷ []
-
--- the largest event
-abbrev largestRows : List Row
-largestRows = row 17 6 32 0 ∷ (risingRows 18 6 0 100 32 ++ (unitRow ∷ each wholeRows geos))
 
 -- 20, before all else. Rows that end too early: 21 at the row count, after each row of the stamp and the scaler.
 abbrev ends : List Vector
@@ -58,10 +54,7 @@ ends =
     ∷ vector [] (refused 21 0) ∷ vector (take 4 (flat (f []))) (refused 21 1) ∷ vector (take 8 (flat (f []))) (refused 21 2)
     ∷ ok [] []
     ∷ noScaler (row 17 6 2 0 ∷ row 18 6 0 100 ∷ []) 21 3 ∷ noScaler (row 17 6 32 0 ∷ []) 21 2 ∷ noScaler (row 17 6 32 0 ∷ risingRows 18 6 0 100 31) 21 33
-    ∷ okScaler (row 17 6 32 0 ∷ risingRows 18 6 0 100 32) (0x32000020 ∷ (rising 100 1 32 ++ (0x34000000 ∷ [])))
-    ∷ okScaler largestRows (0x32000020 ∷ (rising 100 1 32 ++ (0x34000000 ∷ (unit ++ each whole geos))))
-    ∷ noScaler (take 1023 largestRows) 21 1024
-    ∷ noScaler (largestRows ++ (row 20 0 0 0 ∷ [])) 22 1025 ∷ noScaler (largestRows ++ one 31) 22 1025 ∷ noScaler (largestRows ++ (row 22 31 0 0 ∷ [])) 21 1025 ∷ []
+    ∷ okScaler (row 17 6 32 0 ∷ risingRows 18 6 0 100 32) (0x32000020 ∷ (rising 100 1 32 ++ (0x34000000 ∷ []))) ∷ []
 
 -- Row 0, the stamp: kind 16; three words of 16 bits.
 abbrev stamps : List Vector

@@ -15,10 +15,10 @@ use Rattle.event.specs.Demands.{SomeEvent}
 use Rattle.event.proofs.Codes.{Codes, At, codes-require}
 use Rattle.event.proofs.Sequences.{codes-bind}
 use Rattle.event.proofs.Ends.{Ends, ends-bind}
-use Rattle.event.proofs.Trips.{in-room, reads}
+use Rattle.event.proofs.Trips.{reads}
 use Rattle.frs_layout.specs.Event.{Event, scalerEnd}
 use Rattle.frs_layout.specs.Layout.{patternWords, moduleWords, words, rows, smallestEvent, largestEvent, Formed, Valid}
-use Rattle.frs_layout.specs.Reading.{stamp, scaler, patternUnit, atPattern, oneModule, eventParser, reading, readingInto}
+use Rattle.frs_layout.specs.Reading.{stamp, scaler, patternUnit, atPattern, oneModule, eventParser, reading}
 use Rattle.frs_layout.proofs.Event.{ends-event}
 use Rattle.frs_layout.proofs.Words.{codes-one}
 
@@ -34,9 +34,6 @@ least e g =
     let some-scaler : 1 ≤ length (e .scalers) = leb→le 1 (length (e .scalers)) (g .scalers .0 .0) in
     omega (arith, length-append (e .scalers ++ (scalerEnd ∷ [])) more, length-append (e .scalers) (scalerEnd ∷ []))
 
+-- Demand 2 for a reading: accepted exactly when some valid event has these longwords, whose rows are the rows given.
 pub reading-iff : (ws : List ℕ) (rs : List Row) → (reading ws ≡ done rs) ↔ SomeEvent Valid words rows ws rs
 reading-iff = reads Formed words rows largestEvent smallestEvent codes-words ends-words (λ n e. refl) (λ n e h. refl) least
-
--- Demand 2 for a reading: accepted exactly when some valid event has these longwords, and there is room for its rows, which are the rows given.
-pub reading-in-room : (room : ℕ) (ws : List ℕ) (rs : List Row) → (readingInto room ws ≡ done rs) ↔ (SomeEvent Valid words rows ws rs × (length rs ≤ room))
-reading-in-room room ws rs = in-room 12 room (reading-iff ws rs)

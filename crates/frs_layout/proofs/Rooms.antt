@@ -5,8 +5,8 @@ use mathlib.Core.Path.{_≡_, refl}
 use mathlib.Core.List.{List, [], _∷_, _++_, map}
 use Rattle.event.specs.declared.Answer.the-variants.{Accepted, Refused}
 use Rattle.event.proofs.Vectors.{readInto, writeInto, nines, RoomCase, case}
-use Rattle.frs_layout.specs.Reading.{readingInto}
-use Rattle.frs_layout.specs.Writing.{writingInto}
+use Rattle.frs_layout.specs.Reading.{reading}
+use Rattle.frs_layout.specs.Writing.{writing}
 
 -- document 01's case 11, and case 11 with another GEO in its last module's datum, which is refused at 8
 abbrev f : List ℕ
@@ -57,8 +57,8 @@ writings =
     ∷ case badElements (nines 40) (Refused 22 4) (nines 40)
     ∷ []
 
-pub rooms : map (λ (c : RoomCase). readInto readingInto (c .lent)) readings ≡ map (λ (c : RoomCase). c .left) readings
+pub rooms : map (λ (c : RoomCase). readInto reading (c .lent)) readings ≡ map (λ (c : RoomCase). c .left) readings
 rooms = refl
 
-pub wordRooms : map (λ (c : RoomCase). writeInto writingInto (c .lent)) writings ≡ map (λ (c : RoomCase). c .left) writings
+pub wordRooms : map (λ (c : RoomCase). writeInto writing (c .lent)) writings ≡ map (λ (c : RoomCase). c .left) writings
 wordRooms = refl

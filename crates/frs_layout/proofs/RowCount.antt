@@ -10,7 +10,7 @@ use Rattle.event.specs.Parser.{each, ifAny}
 use Rattle.frs_layout.specs.Event.{PatternUnit, Module, empty, withData, Event}
 use Rattle.frs_layout.specs.Layout.{patternWords, moduleWords, words, scalerRowsFrom, patternRows, moduleRows, rows}
 
-scaler-count : (i : ℕ) (vs : List ℕ) → length (scalerRowsFrom i vs) ≡ length vs
+pub scaler-count : (i : ℕ) (vs : List ℕ) → length (scalerRowsFrom i vs) ≡ length vs
 scaler-count i [] = refl
 scaler-count i (v ∷ vs) = ap suc (scaler-count (suc i) vs)
 

@@ -9,14 +9,14 @@ use lib.Dec.{T, eqb, eqb→eq, ltb→lt, leb→le}
 use lib.ListN.{length, length-append, length-map}
 use borrow.Author.Tests.{eq-eqb, ne-eqb}
 use Rattle.event.specs.Parser.{Parser, Passed, ended, Goods, All}
-use Rattle.event.specs.Words.{belowChecks}
+use Rattle.event.specs.Words.{halves, belowChecks}
 use Rattle.event.proofs.Codes.{Codes, any, At, same, less, not-true, codes-give, codes-here, codes-within}
 use Rattle.event.proofs.Sequences.{codes-bind}
 use Rattle.event.proofs.Many.{codes-many}
 use Rattle.event.proofs.Elements.{codes-layout, codes-exactly, codes-several, prints-map, each-alone}
 use Rattle.event.proofs.Impossible.{impossible}
 use Rattle.frs_layout.specs.Event.{Stamp, PatternUnit, Value, Module, empty, withData, scalerGeo, patternGeo, stampIdentifier, scalerEnd, patternHeader, patternEnd}
-use Rattle.frs_layout.specs.Layout.{halves, datumBits, valueWord, stampWords, scalerWords, patternWords, moduleWords, words, stampChecks, countChecks, scalerChecks, patternChecks, valueChecks, counterChecks, channels, ValidScalers, ValidValue, ValidModule, Formed, headerWord, footerWord, emptyWord}
+use Rattle.frs_layout.specs.Layout.{datumBits, valueWord, stampWords, scalerWords, patternWords, moduleWords, words, stampChecks, countChecks, scalerChecks, patternChecks, valueChecks, counterChecks, channels, ValidScalers, ValidValue, ValidModule, Formed, headerWord, footerWord, emptyWord}
 use Rattle.frs_layout.specs.Reading.{dataUnder, stamp, blockOf, scalerValues, scaler, patternUnit, atPattern, Header, emptyHeader, dataHeader, firstWord, headerOf, headerChecks, valueOf, value, values, body, oneModule, eventUpTo, atStamp}
 use Rattle.frs_layout.proofs.Event.{valuesOf, codes-event}
 

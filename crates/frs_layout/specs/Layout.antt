@@ -7,7 +7,7 @@ use lib.Dec.{ltb, leb, eqb}
 use lib.ListN.{length}
 use Rattle.event.specs.declared.Row.{Row}
 use Rattle.event.specs.Parser.{Test, test, Passed, Goods, All, each, ifAny, IfAny, fresh}
-use Rattle.event.specs.Words.{belowChecks}
+use Rattle.event.specs.Words.{halves, belowChecks}
 use Rattle.event.specs.Rows.{row}
 use Rattle.event.specs.Demands.{Sized}
 use Rattle.frs_layout.specs.Event.{Stamp, PatternUnit, Value, Module, empty, withData, Event, geoOf, scalerGeo, patternGeo, stampIdentifier, word1Identifier, word2Identifier, word3Identifier, scalerEnd, patternHeader, registerIdentifier, multiplicityIdentifier, patternEnd}
@@ -17,10 +17,6 @@ use Rattle.frs_layout.specs.Event.{Stamp, PatternUnit, Value, Module, em
 -- GEO in bits 31-27, flag in bits 26-24
 abbrev pub longword : (geo flag low : ℕ) → ℕ
 longword geo flag low = geo * 2 ^ 27 + flag * 2 ^ 24 + low
-
--- an upper half over 16 bits
-abbrev pub halves : (upper low : ℕ) → ℕ
-halves upper low = upper * 2 ^ 16 + low
 
 -- the number of a datum's bits
 abbrev pub datumBits : ℕ

@@ -10,10 +10,10 @@ use lib.Dec.{eqb}
 use lib.ListN.{length}
 use Rattle.event.specs.declared.Row.{Row}
 use Rattle.event.specs.Parser.{Parser, Test, ended, _>>=_, _>>_, give, here, require, within, optionally, many, several}
-use Rattle.event.specs.Words.{layout, exactly, between, belowChecks}
-use Rattle.event.specs.Outcome.{Outcome, done, outcome, inRoom}
+use Rattle.event.specs.Words.{layout, exactly, halves, between, belowChecks}
+use Rattle.event.specs.Outcome.{Outcome, done, outcome}
 use Rattle.frs_layout.specs.Event.{Stamp, PatternUnit, Value, Module, empty, withData, Event, scalerGeo, patternGeo, stampIdentifier, word1Identifier, word2Identifier, word3Identifier, scalerEnd, patternHeader, registerIdentifier, multiplicityIdentifier, patternEnd}
-use Rattle.frs_layout.specs.Layout.{halves, headerWord, footerWord, emptyWord, datumBits, valueWord, rows, countChecks, scalerChecks, geoChecks, valueChecks, counterChecks, channels, geos, smallestEvent, largestEvent}
+use Rattle.frs_layout.specs.Layout.{headerWord, footerWord, emptyWord, datumBits, valueWord, rows, countChecks, scalerChecks, geoChecks, valueChecks, counterChecks, channels, geos, smallestEvent, largestEvent}
 
 -- the upper half given, over 16 data bits
 abbrev pub dataUnder : (upper : ℕ) → Parser ℕ ℕ
@@ -132,10 +132,6 @@ eventParser n = do
 
 abbrev pub reading : List ℕ → Outcome Row
 reading ws = outcome (λ e. done (rows e)) (eventParser (length ws) 0 ws)
-
--- into room for so many rows: 12 last
-abbrev pub readingInto : (room : ℕ) → List ℕ → Outcome Row
-readingInto room ws = inRoom room (reading ws)
 
 -- where the next event of a run may begin, or the run ends
 abbrev pub atStamp : List ℕ → Bool

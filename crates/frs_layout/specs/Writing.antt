@@ -7,7 +7,7 @@ use mathlib.Core.List.{List, [], _∷_, _++_}
 use Rattle.event.specs.declared.Row.{Row}
 use Rattle.event.specs.Parser.{Parser, Test, ended, _>>=_, give, optionally, times, many}
 use Rattle.event.specs.Writing.{rowWith, ofKind, atKind, writingBy}
-use Rattle.event.specs.Outcome.{Outcome, inWordRoom}
+use Rattle.event.specs.Outcome.{Outcome}
 use Rattle.frs_layout.specs.Event.{Stamp, PatternUnit, Value, Module, empty, withData, Event}
 use Rattle.frs_layout.specs.Layout.{words, stampRow, scalerBlockRow, scalerRow, patternRow, emptyRow, moduleRow, valueRow, stampChecks, countChecks, scalerChecks, patternChecks, geoChecks, valueChecks, counterChecks, channels, geos, largestEvent}
 use Rattle.frs_layout.specs.Reading.{eventOf}
@@ -86,10 +86,6 @@ eventRowsUpTo stop = eventOf stamp scaler (optionally atPattern patternUnit) (ma
 
 abbrev pub writing : List ℕ → Outcome ℕ
 writing = writingBy words largestEvent (eventRowsUpTo ended)
-
--- into room for so many longwords: 24 last
-abbrev pub writingInto : (room : ℕ) → List ℕ → Outcome ℕ
-writingInto room xs = inWordRoom room (writing xs)
 
 -- where the next event's rows may begin, or the rows end
 abbrev pub atStamp : List Row → Bool

@@ -1,4 +1,4 @@
--- Writings of dialect S at the edges of its tables, computed. The expected outcomes are document 01's.
+-- Writings of dialect S at the edges of its tables, computed (those of the largest events: crate s800_sizes). The expected outcomes are document 01's.
 -- Assumes nothing.
 use Prim.Native.Nat.{ℕ, _+_}
 use mathlib.Core.Bool.{cond}
@@ -27,12 +27,12 @@ abbrev m : List Row → List Row
 m more = row 1 0x5803 0 0 ∷ row 2 0 0 0x00011234 ∷ row 1 0x5804 0 0 ∷ row 3 0 0 7 ∷ more
 
 -- M's rows with these added have M's words and these, the length word counting them
-abbrev ok : List Row → List ℕ → Vector
+abbrev pub ok : List Row → List ℕ → Vector
 ok more words = vector Crossed (flat (m more))
     (done ((14 + length words) ∷ 0x5800 ∷ 0x0005 ∷ 0x0006 ∷ 0x5803 ∷ 0x1234 ∷ 0x0000 ∷ 0x0001 ∷ 0x0000 ∷ 0x0005 ∷ 0x5804 ∷ 0x0007 ∷ 0x0000 ∷ 0x0000 ∷ words))
 
 -- M's rows with these added are refused
-abbrev no : List Row → (number place : ℕ) → Vector
+abbrev pub no : List Row → (number place : ℕ) → Vector
 no more n k = vector Crossed (flat (m more)) (refused n k)
 
 -- M's rows with one exchanged are refused in both stamp orders
@@ -58,19 +58,13 @@ only allowed before = map (λ k. no (before ++ (row k 0x5802 0 0 ∷ [])) 21 (4 
 abbrev onlyInside : (allowed : List ℕ) → List Row → List Vector
 onlyInside allowed before = no before 21 (4 + length before) ∷ only allowed before
 
--- 20, before all else. Rows that end too early: 21 at the row count. 23, after all rows: more than 4,096 words, place the words needed.
+-- 20, before all else. Rows that end too early: 21 at the row count.
 abbrev sizes : List Vector
 sizes =
     each (λ o. vector o (1 ∷ []) (refused 20 0) ∷ vector o (1 ∷ 0x5803 ∷ []) (refused 20 0) ∷ vector o (1 ∷ 0x5803 ∷ 0 ∷ []) (refused 20 0) ∷ vector o (take 15 (flat (m []))) (refused 20 0)
     ∷ vector o (flat (m []) ++ (0 ∷ [])) (refused 20 0) ∷ vector o (replicate 6 0) (refused 20 0) ∷ vector o [] (refused 21 0) ∷ vector o (take 4 (flat (m []))) (refused 21 1)
     ∷ vector o (take 8 (flat (m []))) (refused 21 2) ∷ vector o (take 12 (flat (m []))) (refused 21 3) ∷ []) (Crossed ∷ Rising ∷ [])
-    ++ (ok [] []
-    ∷ ok (row 1 0x5830 0 0 ∷ replicate 4080 (row 11 0 0 0xffff)) (0x0ff2 ∷ 0x5830 ∷ replicate 4080 0xffff)
-    ∷ no (row 1 0x5830 0 0 ∷ replicate 4081 (row 11 0 0 0xffff)) 23 4097
-    ∷ no (row 1 0x5830 0 0 ∷ (replicate 4081 (row 11 0 0 0xffff) ++ (row 5 0 0 0 ∷ []))) 21 4086
-    ∷ no (row 1 0x5830 0 0 ∷ (replicate 4081 (row 11 0 0 0xffff) ++ (row 1 0x5801 0 0 ∷ []))) 21 4087
-    ∷ no (row 1 0x5840 1 0 ∷ row 7 0 0 9 ∷ (replicate 2037 (row 8 37 146 300) ++ (row 9 0 1 2 ∷ []))) 23 4098
-    ∷ no (replicate 2042 (row 1 0x5802 0 0)) 23 4098 ∷ [])
+    ++ (ok [] [] ∷ [])
 
 -- Rows 0 to 3: 0x5803 and the stamp, in both stamp orders, 0x5804 and the event number. 21 kind or tag, before 22.
 abbrev firstRows : List Vector

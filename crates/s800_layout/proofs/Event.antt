@@ -1,7 +1,7 @@
 -- The parts of an event in their order: a code for each part makes one of the event. Then the words and the rows.
 -- Assumes nothing.
 use Prim.Native.Nat.{ℕ}
-use mathlib.Core.Path.{_≡_, refl, ap, sym}
+use mathlib.Core.Path.{_≡_, refl, ap, sym, _∙_}
 use mathlib.Core.Bool.{Bool, true, false}
 use mathlib.Core.List.{List, [], _∷_, _++_}
 use lib.Dec.{T, eqb}
@@ -48,9 +48,9 @@ all-valid (plain q r) v = (v .0, all-valid r (v .1))
 codes-runUpTo : {E : Type 0} {Rest : List E → Type 0} {packet : Parser E Packet} {packetP : Packet → List E} (stop : List E → Bool) (runP : Run → List E)
     → Codes Rest packet packetP ValidPacket → ((q : Packet) → ValidPacket q → (r : List E) → Rest (packetP q ++ r)) → ((r : List E) → T (stop r) → Rest r)
     → ((q : Packet) → ValidPacket q → (r : List E) → stop (packetP q ++ r) ≡ false) → stop [] ≡ true
-    → ((r : Run) → each packetP (packetsOf r) ≡ runP r) → Codes (At stop) (runUpTo stop packet) runP ValidRun
+    → ((qs : List Packet) → runP (runOf qs) ≡ each packetP qs) → Codes (At stop) (runUpTo stop packet) runP ValidRun
 codes-runUpTo stop runP c again last on halt prints = same (codes-map runOf packetsOf (codes-several-at stop c again last on halt) there)
-    (λ r g. valid r (g .0)) (λ r g. (all-valid r g, sym (back r))) (λ r g. prints r)
+    (λ r g. valid r (g .0)) (λ r g. (all-valid r g, sym (back r))) (λ r g. sym (prints (packetsOf r)) ∙ ap runP (back r))
 
 codes-event : {E : Type 0} {Rest : List E → Type 0} {stamp : Parser E Stamp} {number : Parser E Number} {run : Parser E Run}
     {stampP : Stamp → List E} {numberP : Number → List E} {runP : Run → List E}
@@ -68,9 +68,9 @@ ends-event : {E : Type 0} (stamp : Parser E Stamp) (number : Parser E Number) (p
 ends-event stamp number packet stop = ends-bind stop stamp _ (λ s. ends-bind stop number _ (λ k.
     ends-map stop (runUpTo stop packet) _ (ends-map stop (several packet stop) runOf (ends-many stop (λ u. packet) alone tt))))
 
-run-words : (r : Run) → each packetWords (packetsOf r) ≡ runWords r
-run-words end = refl
-run-words (plain q r) = ap (packetWords q ++_) (run-words r)
+pub run-words : (qs : List Packet) → runWords (runOf qs) ≡ each packetWords qs
+run-words [] = refl
+run-words (q ∷ qs) = ap (packetWords q ++_) (run-words qs)
 
 pub codes-words : (n : ℕ)
     → Codes (At ended) (eventParser n) (λ e. n ∷ eventTag ∷ version ∷ packetsWords e) (λ e. T (between smallestEvent largestEvent n) × Formed e)
@@ -85,9 +85,9 @@ pub ends-words : (n : ℕ) → Ends ended (eventParser n)
 ends-words n = ends-bind ended (require (between smallestEvent largestEvent n) 1 0) _ (λ u. ends-bind ended (exactly 2 n) _ (λ u.
     ends-bind ended (exactly 3 eventTag) _ (λ u. ends-bind ended (exactly 4 version) _ (λ u. ends-event stampPacket numberPacket packet ended))))
 
-run-rows : (r : Run) → each packetRows (packetsOf r) ≡ runRows r
-run-rows end = refl
-run-rows (plain q r) = ap (packetRows q ++_) (run-rows r)
+pub run-rows : (qs : List Packet) → runRows (runOf qs) ≡ each packetRows qs
+run-rows [] = refl
+run-rows (q ∷ qs) = ap (packetRows q ++_) (run-rows qs)
 
 -- the stop holds at the end, or where another packet's own row stands, and at no packet of the event
 codes-rows : (o : StampOrder) (stop : List Row → Bool) → ((r : List Row) → T (stop r) → T (Writing.atPacket r))

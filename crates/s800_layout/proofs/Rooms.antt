@@ -3,13 +3,11 @@
 use Prim.Native.Nat.{ℕ}
 use mathlib.Core.Path.{_≡_, refl}
 use mathlib.Core.List.{List, [], _∷_, _++_, map}
-use lib.ListN.{replicate}
 use Rattle.event.specs.declared.Answer.the-variants.{Accepted, Refused}
 use Rattle.event.specs.declared.StampOrder.the-variants.{Crossed}
 use Rattle.event.proofs.Vectors.{readInto, writeInto, nines, RoomCase, case}
-use Rattle.event.specs.Rows.{row, flat}
-use Rattle.s800_layout.specs.Reading.{readingInto}
-use Rattle.s800_layout.specs.Writing.{writingInto}
+use Rattle.s800_layout.specs.Reading.{reading}
+use Rattle.s800_layout.specs.Writing.{writing}
 
 -- document 01's M, and M with a trigger packet whose time has channel 7, which is refused at 17
 abbrev m : List ℕ
@@ -44,10 +42,6 @@ readings =
 abbrev badElements : List ℕ
 badElements = 1 ∷ 0x5803 ∷ 0 ∷ 0 ∷ 2 ∷ 0 ∷ 0 ∷ 0x00011234 ∷ 1 ∷ 0x5804 ∷ 0 ∷ 0 ∷ 3 ∷ 0 ∷ 0x10000 ∷ 7 ∷ []
 
--- M's rows and those of an opaque packet that makes 4,097 words of them
-abbrev large : List ℕ
-large = elements ++ flat (row 1 0x5830 0 0 ∷ replicate 4081 (row 11 0 0 0xffff))
-
 abbrev writings : List RoomCase
 writings =
     -- 24, place the words needed, the buffer as it was
@@ -57,15 +51,14 @@ writings =
     ∷ case elements (nines 14) (Accepted 14) m
     ∷ case elements (nines 15) (Accepted 14) (m ++ nines 1)
     ∷ case elements (nines 40) (Accepted 14) (m ++ nines 26)
-    -- 24 comes last, and no refusal writes
+    -- 24 comes last (after 23: crate s800_sizes), and no refusal writes
     ∷ case (9 ∷ elements) [] (Refused 20 0) []
     ∷ case badElements [] (Refused 22 3) []
     ∷ case badElements (nines 40) (Refused 22 3) (nines 40)
-    ∷ case large [] (Refused 23 4097) []
     ∷ []
 
-pub rooms : map (λ (c : RoomCase). readInto (λ r. readingInto r Crossed) (c .lent)) readings ≡ map (λ (c : RoomCase). c .left) readings
+pub rooms : map (λ (c : RoomCase). readInto (reading Crossed) (c .lent)) readings ≡ map (λ (c : RoomCase). c .left) readings
 rooms = refl
 
-pub wordRooms : map (λ (c : RoomCase). writeInto (λ r. writingInto r Crossed) (c .lent)) writings ≡ map (λ (c : RoomCase). c .left) writings
+pub wordRooms : map (λ (c : RoomCase). writeInto (writing Crossed) (c .lent)) writings ≡ map (λ (c : RoomCase). c .left) writings
 wordRooms = refl

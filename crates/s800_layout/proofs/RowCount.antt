@@ -1,7 +1,8 @@
 -- An event has no more rows than words. The layout alone shows it: no rule is needed.
 -- Assumes nothing.
-use Prim.Native.Nat.{_≤_}
+use Prim.Native.Nat.{_*_, _≤_}
 use native.Mathlib.Omega.{arith}
+use mathlib.Core.Path.{_≡_, refl}
 use mathlib.Core.List.{List, [], _∷_}
 use lib.ListN.{length, length-append, length-map}
 use Rattle.event.specs.declared.StampOrder.{StampOrder}
@@ -9,20 +10,20 @@ use Rattle.event.specs.Parser.{each}
 use Rattle.s800_layout.specs.Event.{Pair, Sample, energies, hits, Form, trigger, timeOfFlight, scintillator, ionChamber, crdc, hodoscope, objectPin, vmeAdc, opaque, Content, Run, end, plain, Event}
 use Rattle.s800_layout.specs.Layout.{pairWords, sampleWords, contentWords, runWords, words, pairRows, contentRows, runRows, rows}
 
-in-pairs : (xs : List Pair) → length (each pairRows xs) ≤ length (each pairWords xs)
-in-pairs [] = omega arith
-in-pairs (x ∷ xs) = omega (arith, in-pairs xs)
+pub pair-count : (xs : List Pair) → length (each pairRows xs) ≡ length (each pairWords xs)
+pair-count [] = refl
+pair-count (x ∷ xs) = omega (arith, pair-count xs)
 
-in-samples : (xs : List Sample) → length xs ≤ length (each sampleWords xs)
-in-samples [] = omega arith
-in-samples (x ∷ xs) = omega (arith, in-samples xs)
+pub sample-count : (xs : List Sample) → length (each sampleWords xs) ≡ 2 * length xs
+sample-count [] = refl
+sample-count (x ∷ xs) = omega (arith, sample-count xs)
 
 in-content : (f : Form) (c : Content f) → length (contentRows f c) ≤ length (contentWords f c)
 in-content trigger c = simp length-map (omega arith)
 in-content timeOfFlight xs = simp length-map (omega arith)
-in-content scintillator xs = in-pairs xs
+in-content scintillator xs = omega (arith, pair-count xs)
 in-content ionChamber xs = simp length-map (omega arith)
-in-content crdc c = simp (length-append, length-map) (omega (arith, in-samples (c .samples .samples)))
+in-content crdc c = simp (length-append, length-map) (omega (arith, sample-count (c .samples .samples)))
 in-content hodoscope (energies id xs) = simp length-map (omega arith)
 in-content hodoscope (hits h) = omega arith
 in-content objectPin d = omega arith

@@ -8,7 +8,7 @@ use Rattle.event.specs.declared.Row.{Row}
 use Rattle.event.specs.declared.StampOrder.{StampOrder}
 use Rattle.event.specs.declared.StampOrder.the-variants.{Crossed, Rising}
 use Rattle.event.specs.Parser.{Test, test, Passed, Goods, All, each, fresh, member}
-use Rattle.event.specs.Words.{belowChecks}
+use Rattle.event.specs.Words.{halves, belowChecks}
 use Rattle.event.specs.Rows.{row}
 use Rattle.event.specs.Demands.{Sized}
 use Rattle.s800_layout.specs.Event.{Datum, Pair, SampleHead, SampleDatum, Sample, Samples, Anode, Registers, energies, hits, Form, trigger, timeOfFlight, scintillator, ionChamber, crdc, hodoscope, objectPin, vmeAdc, opaque, Content, Packet, Run, end, plain, Stamp, Number, Event, eventTag, stampTag, numberTag, energiesTag, samplesTag, anodeTag, tag, hitsId, largestId, idOf, patternBound, ChannelFormat, triggerTime, flightTime, pairEnergy, energy16, adcEnergy}
@@ -87,10 +87,6 @@ words e = framed eventTag (version ∷ packetsWords e)
 
 -- Rows.
 
--- two 16-bit chunks as one 32-bit number
-abbrev chunks32 : ℕ → ℕ → ℕ
-chunks32 high low = high * 2 ^ 16 + low
-
 -- the chunks lowest first. Crossed, they stand as bits 15-0, 47-32, 31-16, 63-48. (Its own inverse.)
 abbrev pub lowestFirst : StampOrder → Stamp → Stamp
 lowestFirst Crossed s = record { chunk0 = s .chunk0; chunk1 = s .chunk2; chunk2 = s .chunk1; chunk3 = s .chunk3 }
@@ -101,10 +97,10 @@ abbrev pub packetRow : (tag id : ℕ) → Row
 packetRow t id = row 1 t id 0
 
 abbrev pub stampRow : StampOrder → Stamp → Row
-stampRow o s = row 2 0 (chunks32 (lowestFirst o s .chunk3) (lowestFirst o s .chunk2)) (chunks32 (lowestFirst o s .chunk1) (lowestFirst o s .chunk0))
+stampRow o s = row 2 0 (halves (lowestFirst o s .chunk3) (lowestFirst o s .chunk2)) (halves (lowestFirst o s .chunk1) (lowestFirst o s .chunk0))
 
 abbrev pub numberRow : Number → Row
-numberRow k = row 3 0 (k .chunk2) (chunks32 (k .chunk1) (k .chunk0))
+numberRow k = row 3 0 (k .chunk2) (halves (k .chunk1) (k .chunk0))
 
 -- a time (kind 5) or an energy (kind 6); `base` is the row channel of channel 0
 abbrev pub datumRow : ℕ → ℕ → Datum → Row

@@ -11,7 +11,7 @@ use Rattle.event.specs.declared.Row.{Row}
 use Rattle.event.specs.declared.StampOrder.{StampOrder}
 use Rattle.event.specs.Parser.{Parser, ended, _>>=_, _>>_, give, here, require, within, many, several}
 use Rattle.event.specs.Words.{layout, exactly, anyWord, between, belowChecks, wordBelow}
-use Rattle.event.specs.Outcome.{Outcome, done, outcome, inRoom}
+use Rattle.event.specs.Outcome.{Outcome, done, outcome}
 use Rattle.s800_layout.specs.Event.{Datum, Pair, SampleHead, SampleDatum, Sample, Samples, Anode, Registers, Hodoscope, energies, hits, Form, trigger, timeOfFlight, scintillator, ionChamber, crdc, hodoscope, objectPin, vmeAdc, opaque, Content, Packet, Run, runOf, Stamp, Number, Event, eventTag, stampTag, numberTag, energiesTag, samplesTag, anodeTag, tag, formOf, hitsId, patternBound, ChannelFormat, triggerTime, flightTime, pairEnergy, energy16, adcEnergy}
 use Rattle.s800_layout.specs.Layout.{channelWord, datumWord, sampleHeadWord, sampleDatumWord, version, rows, smallestEvent, largestEvent, idChecks, datumChecks, sampleHeadChecks, sampleDatumChecks, channels, pairChannels}
 
@@ -201,7 +201,3 @@ eventParser n = do
 
 abbrev pub reading : StampOrder → List ℕ → Outcome Row
 reading o ws = outcome (λ e. done (rows o e)) (eventParser (length ws) 0 ws)
-
--- into room for so many rows: 12 last
-abbrev pub readingInto : ℕ → StampOrder → List ℕ → Outcome Row
-readingInto room o ws = inRoom room (reading o ws)

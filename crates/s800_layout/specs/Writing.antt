@@ -11,7 +11,7 @@ use Rattle.event.specs.declared.StampOrder.{StampOrder}
 use Rattle.event.specs.Parser.{Parser, ended, _>>=_, _>>_, give, many, several}
 use Rattle.event.specs.Words.{belowChecks}
 use Rattle.event.specs.Rows.{row}
-use Rattle.event.specs.Outcome.{Outcome, inWordRoom}
+use Rattle.event.specs.Outcome.{Outcome}
 use Rattle.event.specs.Writing.{rowWith, ofKind, atKind, writingBy}
 use Rattle.s800_layout.specs.Event.{Datum, Pair, Sample, Samples, Anode, Registers, Hodoscope, energies, hits, Form, trigger, timeOfFlight, scintillator, ionChamber, crdc, hodoscope, objectPin, vmeAdc, opaque, Content, Packet, Stamp, Number, Event, stampTag, numberTag, tag, formOf, hitsId, patternBound, ChannelFormat, triggerTime, flightTime, pairEnergy, energy16, adcEnergy}
 use Rattle.s800_layout.specs.Layout.{words, lowestFirst, packetRow, stampRow, numberRow, datumRow, hodoscopeBase, adcBase, padChannel, padConnector, sampleRow, registerRow, anodeRow, largestEvent, stampChecks, numberChecks, idChecks, datumChecks, sampleChecks, anodeChecks, registerChecks, channels, pairChannels}
@@ -158,7 +158,3 @@ eventRowsUpTo o stop = eventOf (stampPacket o) numberPacket (runUpTo stop packet
 
 abbrev pub writing : StampOrder → List ℕ → Outcome ℕ
 writing o = writingBy words largestEvent (eventRowsUpTo o ended)
-
--- into room for so many words: 24 last
-abbrev pub writingInto : (room : ℕ) → StampOrder → List ℕ → Outcome ℕ
-writingInto room o xs = inWordRoom room (writing o xs)

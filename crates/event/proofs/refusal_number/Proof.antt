@@ -1,0 +1,7 @@
+-- `refusal_number` meets its contract. Assumes nothing.
+use borrow.Author.Needs.{needs}
+use Rattle.event.proofs.refusal_number.Statement.{statement}
+use Rattle.event.proofs.refusal_number.Tie as tie
+
+pub refusal-number-spec : {M : Type 1} → statement M
+refusal-number-spec = tie.close (tie.spec (λ c. search needs) (λ c. search needs) (λ c. search needs) (λ c. search needs))
