@@ -11,14 +11,17 @@ use lib.ListN.{length, getD, drop}
 use lib.Seq.{slice, slice-empty, length-slice}
 use borrow.Author.Tests.{eq-eqb, ne-eqb, eqb-true, lt-ltb, le-leb, lt-leb}
 use Rattle.event.specs.Parser.{Result, ok, refuse, Passed, ended, filled, alone, All}
+use Rattle.event.specs.Words.{halves}
 use Rattle.event.specs.Rows.{storeRow}
 use Rattle.event.specs.Scanning.{storeRows}
 use Rattle.event.proofs.Codes.{true-T}
 use Rattle.event.proofs.Ends.{ends-many}
 use Rattle.event.proofs.Loops.{to-the-end, at-end}
 use Rattle.event.proofs.Turns.{at-word}
-use Rattle.frs_layout.specs.Layout.{longword, halves, scalerChecks, scalerRow, scalerRowsFrom, scalerRows, scalerBlockRow}
+use Rattle.frs_layout.specs.Event.{scalerGeo, stampIdentifier, word1Identifier, word2Identifier, word3Identifier, scalerEnd}
+use Rattle.frs_layout.specs.Layout.{headerWord, scalerChecks, scalerRow, scalerRowsFrom, scalerRows, scalerBlockRow}
 use Rattle.frs_layout.specs.Reading.{stamp, blockOf, scalerValue, scalerValues, scalerFooter, scaler}
+use Rattle.frs_layout.proofs.RowCount.{scaler-count}
 use Rattle.frs_layout.proofs.Words.{codes-scalerValues}
 use Rattle.event.specs.declared.Part.the-variants.{Done}
 use Rattle.frs_reader.specs.Beginning.{stampFault, stampAt, PartOf}
@@ -36,24 +39,24 @@ module _ (a b c d : ℕ) (r : List ℕ) where
   abbrev isUnder : ℕ → ℕ → Bool
   isUnder upper w = eqb w (halves upper (w % 2 ^ 16))
 
-  word-3 : eqb a 0x200 ≡ true → isUnder 0x00f7 b ≡ true → isUnder 0x01f7 c ≡ true → (x : Bool) → isUnder 0x02f7 d ≡ x → Stamped
+  word-3 : eqb a stampIdentifier ≡ true → isUnder word1Identifier b ≡ true → isUnder word2Identifier c ≡ true → (x : Bool) → isUnder word3Identifier d ≡ x → Stamped
   unfolding stampFault
-  word-3 e f g true h = rw (e, under-judged 0x00f7 1 b (c ∷ d ∷ r), f, under-judged 0x01f7 2 c (d ∷ r), g, under-judged 0x02f7 3 d r, h)
-  word-3 e f g false h = rw (e, under-judged 0x00f7 1 b (c ∷ d ∷ r), f, under-judged 0x01f7 2 c (d ∷ r), g, under-judged 0x02f7 3 d r, h)
+  word-3 e f g true h = rw (e, under-judged word1Identifier 1 b (c ∷ d ∷ r), f, under-judged word2Identifier 2 c (d ∷ r), g, under-judged word3Identifier 3 d r, h)
+  word-3 e f g false h = rw (e, under-judged word1Identifier 1 b (c ∷ d ∷ r), f, under-judged word2Identifier 2 c (d ∷ r), g, under-judged word3Identifier 3 d r, h)
 
-  word-2 : eqb a 0x200 ≡ true → isUnder 0x00f7 b ≡ true → (x : Bool) → isUnder 0x01f7 c ≡ x → Stamped
+  word-2 : eqb a stampIdentifier ≡ true → isUnder word1Identifier b ≡ true → (x : Bool) → isUnder word2Identifier c ≡ x → Stamped
   unfolding stampFault
-  word-2 e f true g = word-3 e f g (isUnder 0x02f7 d) refl
-  word-2 e f false g = rw (e, under-judged 0x00f7 1 b (c ∷ d ∷ r), f, under-judged 0x01f7 2 c (d ∷ r), g)
+  word-2 e f true g = word-3 e f g (isUnder word3Identifier d) refl
+  word-2 e f false g = rw (e, under-judged word1Identifier 1 b (c ∷ d ∷ r), f, under-judged word2Identifier 2 c (d ∷ r), g)
 
-  word-1 : eqb a 0x200 ≡ true → (x : Bool) → isUnder 0x00f7 b ≡ x → Stamped
+  word-1 : eqb a stampIdentifier ≡ true → (x : Bool) → isUnder word1Identifier b ≡ x → Stamped
   unfolding stampFault
-  word-1 e true f = word-2 e f (isUnder 0x01f7 c) refl
-  word-1 e false f = rw (e, under-judged 0x00f7 1 b (c ∷ d ∷ r), f)
+  word-1 e true f = word-2 e f (isUnder word2Identifier c) refl
+  word-1 e false f = rw (e, under-judged word1Identifier 1 b (c ∷ d ∷ r), f)
 
-  word-0 : (x : Bool) → eqb a 0x200 ≡ x → Stamped
+  word-0 : (x : Bool) → eqb a stampIdentifier ≡ x → Stamped
   unfolding stampFault
-  word-0 true e = word-1 e (isUnder 0x00f7 b) refl
+  word-0 true e = word-1 e (isUnder word1Identifier b) refl
   word-0 false e = rw e
 
 pub stamp-judged : (ws : List ℕ) → 4 ≤ length ws → stamp 0 ws ≡ cond (eqb (stampFault ws) 4) (ok (stampAt ws) 4 (drop 4 ws)) (refuse 10 (stampFault ws))
@@ -61,11 +64,7 @@ stamp-judged [] h = absurd (omega arith)
 stamp-judged (a ∷ []) h = absurd (omega arith)
 stamp-judged (a ∷ b ∷ []) h = absurd (omega arith)
 stamp-judged (a ∷ b ∷ c ∷ []) h = absurd (omega arith)
-stamp-judged (a ∷ b ∷ c ∷ d ∷ r) h = word-0 a b c d r (eqb a 0x200) refl
-
-scaler-rows : (i : ℕ) (vs : List ℕ) → length (scalerRowsFrom i vs) ≡ length vs
-scaler-rows i [] = refl
-scaler-rows i (v ∷ vs) = ap suc (scaler-rows (suc i) vs)
+stamp-judged (a ∷ b ∷ c ∷ d ∷ r) h = word-0 a b c d r (eqb a stampIdentifier) refl
 
 -- the loop over the scalers: the i stored, those left are stored as the whole would be
 pub record Scalers (ws : List ℕ) (n : ℕ) (rows₀ rows : List ℕ) (i : ℕ) : Type 0 where
@@ -103,7 +102,7 @@ module _ (ws : List ℕ) (long : 7 ≤ length ws) where
   header = getD ws 4 0
 
   abbrev inLayout : Bool
-  inLayout = eqb header (longword 6 2 (header % 2 ^ 6))
+  inLayout = eqb header (headerWord scalerGeo (header % 2 ^ 6))
 
   from-header : drop 4 ws ≡ header ∷ slice 5 (length ws) ws
   from-header = to-the-end 4 ws ∙ at-word ws 4 (length ws) (omega arith) (le-refl (length ws))
@@ -111,25 +110,25 @@ module _ (ws : List ℕ) (long : 7 ≤ length ws) where
   abbrev Scaled : Result ℕ (List ℕ) → Type 0
   Scaled x = scaler 4 (drop 4 ws) ≡ x
 
-  pub scaler-low : header < 0x32000001 → Scaled (refuse 6 4)
+  pub scaler-low : header < headerWord scalerGeo 1 → Scaled (refuse 6 4)
   scaler-low h = rw from-header (go inLayout refl)
     where
       go : (x : Bool) → inLayout ≡ x → scaler 4 (header ∷ slice 5 (length ws) ws) ≡ refuse 6 4
-      go true e = let z = eqb-true header (longword 6 2 (header % 2 ^ 6)) e in rw (e, lt-leb 1 (header % 2 ^ 6) (omega arith))
+      go true e = let z = eqb-true header (headerWord scalerGeo (header % 2 ^ 6)) e in rw (e, lt-leb 1 (header % 2 ^ 6) (omega arith))
       go false e = rw e
 
-  pub scaler-high : 0x32000020 < header → Scaled (refuse 6 4)
+  pub scaler-high : headerWord scalerGeo 32 < header → Scaled (refuse 6 4)
   scaler-high h = rw from-header (go inLayout refl)
     where
       go : (x : Bool) → inLayout ≡ x → scaler 4 (header ∷ slice 5 (length ws) ws) ≡ refuse 6 4
-      go true e = let z = eqb-true header (longword 6 2 (header % 2 ^ 6)) e in rw (e, le-leb 1 (header % 2 ^ 6) (omega arith), lt-leb (header % 2 ^ 6) 32 (omega arith))
+      go true e = let z = eqb-true header (headerWord scalerGeo (header % 2 ^ 6)) e in rw (e, le-leb 1 (header % 2 ^ 6) (omega arith), lt-leb (header % 2 ^ 6) 32 (omega arith))
       go false e = rw e
 
-  module _ {n : ℕ} (some : 1 ≤ n) (few : n ≤ 32) (h : header ≡ 0x32000000 + n) where
+  module _ {n : ℕ} (some : 1 ≤ n) (few : n ≤ 32) (h : header ≡ headerWord scalerGeo n) where
     block : Scaled (blockOf 4 n scalerValues scalerFooter 5 (slice 5 (length ws) ws))
     block =
         let c : header % 2 ^ 6 ≡ n = omega arith in
-        rw from-header (rw (eq-eqb header (longword 6 2 (header % 2 ^ 6)) (omega arith), c, le-leb 1 n some, le-leb n 32 few))
+        rw from-header (rw (eq-eqb header (headerWord scalerGeo (header % 2 ^ 6)) (omega arith), c, le-leb 1 n some, le-leb n 32 few))
 
     pub scaler-short : length ws < n + 6 → Scaled (refuse 5 4)
     scaler-short s = block ∙ block-short 4 n 5 scalerValues scalerFooter ws (omega arith) (omega arith)
@@ -153,10 +152,10 @@ module _ (ws : List ℕ) (long : 7 ≤ length ws) where
       judged : Scaled (filled (slice (5 + n + 1) (length ws) ws) (scalerFooter scalers (5 + n) (getD ws (5 + n) 0 ∷ [])))
       judged = block ∙ values-read 4 n 5 scalerValues scalerFooter ws (omega arith) values
 
-      pub scaler-footer : (getD ws (5 + n) 0 ≡ 0x34000000 → ⊥) → Scaled (refuse 9 (5 + n))
-      scaler-footer z = judged ∙ rw (ne-eqb (getD ws (5 + n) 0) 0x34000000 z)
+      pub scaler-footer : (getD ws (5 + n) 0 ≡ scalerEnd → ⊥) → Scaled (refuse 9 (5 + n))
+      scaler-footer z = judged ∙ rw (ne-eqb (getD ws (5 + n) 0) scalerEnd z)
 
-      pub scaler-read : {before after : List ℕ} → getD ws (5 + n) 0 ≡ 0x34000000 → after ≡ storeRows (storeRows before 1 (scalerBlockRow n ∷ [])) 2 (scalerRowsFrom 0 scalers)
+      pub scaler-read : {before after : List ℕ} → getD ws (5 + n) 0 ≡ scalerEnd → after ≡ storeRows (storeRows before 1 (scalerBlockRow n ∷ [])) 2 (scalerRowsFrom 0 scalers)
           → PartOf scalerRows (scaler 4 (drop 4 ws)) ws 1 before after (Done (6 + n) (2 + n))
       scaler-read {before} z q =
           let size : length scalers ≡ n = length-slice 5 (5 + n) ws (omega arith) ∙ (let m : 5 + n - 5 ≡ n = omega arith in m) in
@@ -166,10 +165,10 @@ module _ (ws : List ℕ) (long : 7 ≤ length ws) where
           record {
             part = record {
               value = scalers;
-              parsed = judged ∙ rw (eq-eqb (getD ws (5 + n) 0) 0x34000000 z, next, one, rest);
+              parsed = judged ∙ rw (eq-eqb (getD ws (5 + n) 0) scalerEnd z, next, one, rest);
               inside = omega arith;
               few = omega arith;
-              counted = let c = scaler-rows 0 scalers in omega arith;
+              counted = let c = scaler-count 0 scalers in omega arith;
               stored = q ∙ rw size;
             };
           }

@@ -13,7 +13,8 @@ use Rattle.event.specs.Parser.{ok, ended, optionally, many, each, ifAny}
 use Rattle.event.specs.Words.{between}
 use Rattle.event.specs.Rows.{storeRow}
 use Rattle.event.specs.Scanning.{storeRows, Scanned}
-use Rattle.event.proofs.Leads.{leads-part, store-append, scanned-refuse}
+use Rattle.event.proofs.Elements.{is-between}
+use Rattle.event.proofs.Leads.{leads-part, store-append, scanned-refuse, begins-refused, begins-done}
 use Rattle.frs_layout.specs.Layout.{stampRow, scalerRows, patternRows, moduleRows, rows, geos, smallestEvent, largestEvent}
 use Rattle.frs_layout.specs.Reading.{stamp, scaler, patternUnit, atPattern, oneModule, eventParser}
 use Rattle.event.specs.declared.Part.{Part}
@@ -31,7 +32,7 @@ module _ (ws : List ℕ) where
 
   module _ (long : smallestEvent ≤ length ws) (short : length ws ≤ largestEvent) where
     sized : between smallestEvent largestEvent (length ws) ≡ true
-    sized = rw (le-leb smallestEvent (length ws) long, le-leb (length ws) largestEvent short)
+    sized = is-between smallestEvent largestEvent (length ws) long short
 
     pub stamp-refused : {before after : List ℕ} {r : Part} {n : ℕ} → n ≡ stampFault ws → (n ≡ 4 → ⊥) → r ≡ Refused 10 n → Begins ws before after r
     stamp-refused {n = n} e l q = rw q (record { begun = rw (sized, stamp-judged ws (omega arith), ← e, ne-eqb n 4 l) })
@@ -61,22 +62,22 @@ module _ (ws : List ℕ) where
                 = o .stored ∙ ap (λ (l : List ℕ). storeRows l k ps) (v .stored) ∙ ap (λ (m : ℕ). storeRows (storeRows b₁ 1 ss) m ps) (v .counted)
                 ∙ sym (store-append storeRow b₁ 1 ss ps) ∙ ap (λ (l : List ℕ). storeRows l 1 (ss ++ ps)) stored in
                 record {
-                  begun = (
-                    o .inside,
-                    o .few,
-                    rw (sized, stamped, v .parsed, o .parsed, n, b) (leads-part first (each moduleRows) (many oneModule geos ended [] at′ (drop at′ ws))
+                  begun = record {
+                    inside = o .inside;
+                    few = o .few;
+                    leads = rw (sized, stamped, v .parsed, o .parsed, n, b) (leads-part first (each moduleRows) (many oneModule geos ended [] at′ (drop at′ ws))
                         (λ ms. record { stamp = stampAt ws; scalers = v .value; pattern = o .value; modules = ms }) rows 0 before
-                        (λ ms. ap (stampRow (stampAt ws) ∷_) (sym (append-assoc ss ps (each moduleRows ms))))),
-                  );
+                        (λ ms. ap (stampRow (stampAt ws) ∷_) (sym (append-assoc ss ps (each moduleRows ms)))));
+                  };
                 }
 
 -- from the parts before the modules to the event
 pub head-refused : {ws before b : List ℕ} {r : Part} {n p : ℕ} → Begins ws before b r → r ≡ Refused n p → Scanned rows (eventParser (length ws) 0 ws) 0 before (answer.Refused n p) b
-head-refused {b = b} s q = scanned-refuse rows 0 _ b ((rw q at s) .begun)
+head-refused {b = b} s q = scanned-refuse rows 0 _ b (begins-refused s q)
 
 module _ {ws before b : List ℕ} {r : Part} {at k : ℕ} (s : Begins ws before b r) (q : r ≡ Done at k) where
   pub modules-there : (at ≤ length ws) × (k ≤ at)
-  modules-there = let h = (rw q at s) .begun in (h .0, h .1)
+  modules-there = let h = begins-done s q in (h .inside, h .few)
 
   pub whole-event : {a : Answer} {after : List ℕ} → Scanned (each moduleRows) (many oneModule geos ended [] at (drop at ws)) k b a after → Scanned rows (eventParser (length ws) 0 ws) 0 before a after
-  whole-event {a} {after} t = (rw q at s) .begun .2 .leads a after t
+  whole-event {a} {after} t = begins-done s q .leads .leads a after t

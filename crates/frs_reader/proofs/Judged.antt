@@ -8,11 +8,13 @@ use mathlib.Core.Bool.{Bool, true, false, cond, not, _||_}
 use mathlib.Core.List.{List, _∷_}
 use lib.Dec.{eqb, leb}
 use borrow.Author.Tests.{eq-eqb, ne-eqb, eqb-true, eqb-false, lt-ltb, leb-true}
-use Rattle.event.specs.Parser.{Result, ok, refuse, then, give, judge}
+use Rattle.event.specs.Parser.{ok, refuse, then, give, judge}
 use Rattle.event.specs.Channels.{present, Blocked}
+use Rattle.event.specs.Words.{halves}
 use Rattle.event.proofs.ChannelLaws.{seen-only}
-use Rattle.frs_layout.specs.Event.{Value, withData}
-use Rattle.frs_layout.specs.Layout.{longword, halves, datumBits, valueWord, geoChecks}
+use Rattle.event.proofs.ChannelTurns.{onFault}
+use Rattle.frs_layout.specs.Event.{Value, withData, scalerGeo, patternGeo}
+use Rattle.frs_layout.specs.Layout.{longword, datumBits, valueWord, geoChecks}
 use Rattle.frs_layout.specs.Reading.{dataUnder, Header, emptyHeader, dataHeader, headerOf, header, valueOf, value, footer}
 use Rattle.frs_reader.specs.Longword.{isHeader, headerFault, valueFault, footerFault}
 
@@ -27,9 +29,6 @@ low-six w =
 
 flag-two : (g l w : ℕ) → l < 2 ^ 6 → w ≡ longword g 2 l → w / 2 ^ 24 % 2 ^ 3 ≡ 2
 flag-two g l w h e = let d : w / 2 ^ 24 ≡ 8 * g + 2 = omega arith in rw d (mul-add-mod-self-left 8 g 2)
-
-abbrev pub onFault : {A : Type 0} → ℕ → A → ℕ → List ℕ → Result ℕ A
-onFault n a i r = cond (eqb n 0) (ok a (suc i) r) (refuse n i)
 
 module _ {set : ℕ} {seen : List ℕ} (s : Blocked 0 set seen) (i : ℕ) (r : List ℕ) where
   -- a data longword
@@ -47,7 +46,7 @@ module _ {set : ℕ} {seen : List ℕ} (s : Blocked 0 set seen) (i : ℕ) (r : L
   module _ (w : ℕ) (fits : w < 2 ^ 32) where
     -- the GEO of a header
     geo-judged : (h : Header) → judge (geoChecks 6 11 seen (w / 2 ^ 27)) h i r
-        ≡ onFault (cond (eqb (w / 2 ^ 27) 5 || eqb (w / 2 ^ 27) 6) 6 (cond (present set (w / 2 ^ 27)) 11 0)) h i r
+        ≡ onFault (cond (eqb (w / 2 ^ 27) patternGeo || eqb (w / 2 ^ 27) scalerGeo) 6 (cond (present set (w / 2 ^ 27)) 11 0)) h i r
     geo-judged h = rw (lt-ltb (w / 2 ^ 27) (2 ^ 5) (omega arith), seen-only s (w / 2 ^ 27)) (go (eqb (w / 2 ^ 27) 5) (eqb (w / 2 ^ 27) 6) (present set (w / 2 ^ 27)))
       where
         go : (a b c : Bool) → cond (not a) (cond (not b) (cond (not c) (ok h (suc i) r) (refuse 11 i)) (refuse 6 i)) (refuse 6 i) ≡ onFault (cond (a || b) 6 (cond c 11 0)) h i r

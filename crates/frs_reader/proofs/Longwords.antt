@@ -1,13 +1,14 @@
 -- A longword's layout, as tests of its bits find it.
 -- Assumes nothing.
-use Prim.Native.Nat.{ℕ, _+_, _*_, _/_, _%_, _^_, _≤_, _<_}
+use Prim.Native.Nat.{ℕ, _+_, _*_, _/_, _%_, _^_, _<_}
 use native.Mathlib.Omega.{arith}
 use mathlib.Core.Path.{_≡_, refl, ap, sym, _∙_}
 use mathlib.Core.Bool.{Bool, true, false, cond, not}
 use lib.Dec.{eqb}
 use borrow.Author.Tests.{eq-eqb, ne-eqb, eqb-true, eqb-false}
 use Rattle.event.specs.Channels.{present}
-use Rattle.frs_layout.specs.Layout.{longword, halves, datumBits, valueWord}
+use Rattle.event.specs.Words.{halves}
+use Rattle.frs_layout.specs.Layout.{longword, datumBits, valueWord}
 use Rattle.event.proofs.Impossible.{impossible}
 use Rattle.frs_layout.specs.Reading.{valueOf}
 use Rattle.frs_reader.specs.Longword.{isHeader, headerFault, footerFault}

@@ -13,11 +13,12 @@ use lib.Seq.{slice, slice-empty}
 use borrow.Author.Tests.{eq-eqb, ne-eqb}
 use Rattle.event.specs.declared.Row.{Row}
 use Rattle.event.specs.Parser.{Result, ok, refuse, then, give, filled, within, optionally, ifAny}
+use Rattle.event.specs.Words.{halves}
 use Rattle.event.specs.Rows.{storeRow}
 use Rattle.event.proofs.Loops.{to-the-end, within-slice, within-short}
-use Rattle.event.proofs.Turns.{at-word}
-use Rattle.frs_layout.specs.Event.{PatternUnit}
-use Rattle.frs_layout.specs.Layout.{halves, patternRow, patternRows}
+use Rattle.event.proofs.Turns.{at-word, three-words}
+use Rattle.frs_layout.specs.Event.{PatternUnit, patternGeo, patternHeader, registerIdentifier, multiplicityIdentifier, patternEnd}
+use Rattle.frs_layout.specs.Layout.{patternRow, patternRows}
 use Rattle.frs_layout.specs.Reading.{patternBody, patternUnit, atPattern}
 use Rattle.event.specs.declared.Part.{Part}
 use Rattle.event.specs.declared.Part.the-variants.{Done, Refused}
@@ -44,13 +45,13 @@ module _ (ws : List ℕ) (at : ℕ) where
     from-header : drop at ws ≡ header ∷ slice (at + 1) (length ws) ws
     from-header = to-the-end at ws ∙ at-word ws at (length ws) below (le-refl (length ws)) ∙ (let z : suc at ≡ at + 1 = omega arith in rw z)
 
-    pub pattern-other : {k : ℕ} {b : List ℕ} → (header / 2 ^ 27 ≡ 5 → ⊥) → k ≤ at → PartOf (ifAny patternRows) (optionally atPattern patternUnit at (drop at ws)) ws k b b (Done at k)
-    pattern-other z f = absent (omega arith) f (rw from-header (rw (ne-eqb (header / 2 ^ 27) 5 z)))
+    pub pattern-other : {k : ℕ} {b : List ℕ} → (header / 2 ^ 27 ≡ patternGeo → ⊥) → k ≤ at → PartOf (ifAny patternRows) (optionally atPattern patternUnit at (drop at ws)) ws k b b (Done at k)
+    pattern-other z f = absent (omega arith) f (rw from-header (rw (ne-eqb (header / 2 ^ 27) patternGeo z)))
 
-    pub pattern-header : header / 2 ^ 27 ≡ 5 → (header ≡ 0x2a000002 → ⊥) → Looked (refuse 6 at)
-    pattern-header g z = rw from-header (rw (g, ne-eqb header 0x2a000002 z))
+    pub pattern-header : header / 2 ^ 27 ≡ patternGeo → (header ≡ patternHeader → ⊥) → Looked (refuse 6 at)
+    pattern-header g z = rw from-header (rw (g, ne-eqb header patternHeader z))
 
-    module _ (h : header ≡ 0x2a000002) where
+    module _ (h : header ≡ patternHeader) where
       begun : {x : Result ℕ PatternUnit} → within 5 at 3 patternBody (at + 1) (slice (at + 1) (length ws) ws) ≡ x → Looked (then (λ p. give (some p)) x)
       begun e = let z : suc at ≡ at + 1 = omega arith in rw from-header (rw (h, z, e))
 
@@ -69,45 +70,51 @@ module _ (ws : List ℕ) (at : ℕ) where
 
         three : slice (at + 1) (at + 4) ws ≡ register ∷ multiplicity ∷ footer ∷ []
         three =
-            let a : suc (at + 1) ≡ at + 2 = omega arith in
-            let b : suc (at + 2) ≡ at + 3 = omega arith in
-            let c : suc (at + 3) ≡ at + 4 = omega arith in
-            at-word ws (at + 1) (at + 4) (omega arith) inside ∙ rw (a, at-word ws (at + 2) (at + 4) (omega arith) inside, b, at-word ws (at + 3) (at + 4) (omega arith) inside, c, slice-empty (at + 4) ws)
+            let a : at + 1 + 1 ≡ at + 2 = omega arith in
+            let b : at + 1 + 2 ≡ at + 3 = omega arith in
+            let c : at + 1 + 3 ≡ at + 4 = omega arith in
+            rw (a, b, c) at (three-words ws (at + 1) (omega arith))
 
         body : (x : Result ℕ PatternUnit) → patternBody (at + 1) (register ∷ multiplicity ∷ footer ∷ []) ≡ x → Looked (then (λ p. give (some p)) (filled (drop (at + 4) ws) x))
         body x e =
             let d : at + 1 + 3 ≡ at + 4 = omega arith in
             begun {x = filled (drop (at + 4) ws) x} (within-slice 5 at 3 patternBody (at + 1) (length ws) ws (le-refl (length ws)) (omega arith) ∙ rw (d, three, e, to-the-end (at + 4) ws))
 
-        pub pattern-register : eqb register (halves 0x2800 (register % 2 ^ 16)) ≡ false → Looked (refuse 10 (at + 1))
-        pattern-register e = body (refuse 10 (at + 1)) (rw (under-judged 0x2800 (at + 1) register (multiplicity ∷ footer ∷ []), e))
+        pub pattern-register : eqb register (halves registerIdentifier (register % 2 ^ 16)) ≡ false → Looked (refuse 10 (at + 1))
+        pattern-register e = body (refuse 10 (at + 1)) (rw (under-judged registerIdentifier (at + 1) register (multiplicity ∷ footer ∷ []), e))
 
-        module _ (r : eqb register (halves 0x2800 (register % 2 ^ 16)) ≡ true) where
+        module _ (r : eqb register (halves registerIdentifier (register % 2 ^ 16)) ≡ true) where
           second : suc (at + 1) ≡ at + 2
           second = omega arith
 
-          pub pattern-multiplicity : eqb multiplicity (halves 0x2801 (multiplicity % 2 ^ 16)) ≡ false → Looked (refuse 10 (at + 2))
-          pattern-multiplicity e = body (refuse 10 (at + 2)) (rw (under-judged 0x2800 (at + 1) register (multiplicity ∷ footer ∷ []), r, second, under-judged 0x2801 (at + 2) multiplicity (footer ∷ []), e))
+          pub pattern-multiplicity : eqb multiplicity (halves multiplicityIdentifier (multiplicity % 2 ^ 16)) ≡ false → Looked (refuse 10 (at + 2))
+          pattern-multiplicity e = body (refuse 10 (at + 2)) (rw (
+            under-judged registerIdentifier (at + 1) register (multiplicity ∷ footer ∷ []),
+            r,
+            second,
+            under-judged multiplicityIdentifier (at + 2) multiplicity (footer ∷ []),
+            e,
+          ))
 
-          module _ (m : eqb multiplicity (halves 0x2801 (multiplicity % 2 ^ 16)) ≡ true) where
+          module _ (m : eqb multiplicity (halves multiplicityIdentifier (multiplicity % 2 ^ 16)) ≡ true) where
             abbrev unit : PatternUnit
             unit = record { register = register % 2 ^ 16; multiplicity = multiplicity % 2 ^ 16 }
 
             third : suc (at + 2) ≡ at + 3
             third = omega arith
 
-            pub pattern-footer : (footer ≡ 0x2c000000 → ⊥) → Looked (refuse 9 (at + 3))
+            pub pattern-footer : (footer ≡ patternEnd → ⊥) → Looked (refuse 9 (at + 3))
             pattern-footer z = body (refuse 9 (at + 3)) (rw (
-              under-judged 0x2800 (at + 1) register (multiplicity ∷ footer ∷ []),
+              under-judged registerIdentifier (at + 1) register (multiplicity ∷ footer ∷ []),
               r,
               second,
-              under-judged 0x2801 (at + 2) multiplicity (footer ∷ []),
+              under-judged multiplicityIdentifier (at + 2) multiplicity (footer ∷ []),
               m,
               third,
-              ne-eqb footer 0x2c000000 z,
+              ne-eqb footer patternEnd z,
             ))
 
-            pub pattern-read : {k a b : ℕ} {before after : List ℕ} → footer ≡ 0x2c000000 → k ≤ at → a ≡ register → b ≡ multiplicity
+            pub pattern-read : {k a b : ℕ} {before after : List ℕ} → footer ≡ patternEnd → k ≤ at → a ≡ register → b ≡ multiplicity
                 → after ≡ storeRow before k (patternRow (record { register = a % 2 ^ 16; multiplicity = b % 2 ^ 16 })) → PartOf (ifAny patternRows) (optionally atPattern patternUnit at (drop at ws)) ws k before after (Done (at + 4) (k + 1))
             pattern-read {k} z f p q stored =
                 let last : suc (at + 3) ≡ at + 4 = omega arith in
@@ -115,13 +122,13 @@ module _ (ws : List ℕ) (at : ℕ) where
                   part = record {
                     value = some unit;
                     parsed = body (ok unit (at + 4) []) (rw (
-                      under-judged 0x2800 (at + 1) register (multiplicity ∷ footer ∷ []),
+                      under-judged registerIdentifier (at + 1) register (multiplicity ∷ footer ∷ []),
                       r,
                       second,
-                      under-judged 0x2801 (at + 2) multiplicity (footer ∷ []),
+                      under-judged multiplicityIdentifier (at + 2) multiplicity (footer ∷ []),
                       m,
                       third,
-                      eq-eqb footer 0x2c000000 z,
+                      eq-eqb footer patternEnd z,
                       last,
                     ));
                     inside = inside;

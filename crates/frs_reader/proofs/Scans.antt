@@ -18,12 +18,13 @@ use Rattle.event.specs.Channels.{insert, Blocked}
 use Rattle.event.specs.Rows.{row, storeRow}
 use Rattle.event.specs.Scanning.{storeRows, Scanned}
 use Rattle.event.proofs.ChannelLaws.{blocked-none, blocked-more}
+use Rattle.event.proofs.ChannelTurns.{ChannelTurns, channel-refused, channel-taken}
 use Rattle.event.proofs.Elements.{each-map}
 use Rattle.event.proofs.Ends.{ends-many}
 use Rattle.event.proofs.Impossible.{impossible}
 use Rattle.event.proofs.Leads.{refused-scan}
 use Rattle.event.proofs.Loops.{to-the-end, at-end}
-use Rattle.event.proofs.Turns.{Reached, begin, stop, step, at-word}
+use Rattle.event.proofs.Turns.{Reached, begin, stop, step}
 use Rattle.frs_layout.specs.Event.{Value, Module, empty, withData}
 use Rattle.frs_layout.specs.Layout.{valueWord, valueRow, moduleRows, channels, geos}
 use Rattle.frs_layout.specs.Reading.{valueOf, value, values, footer, oneModule}
@@ -42,25 +43,18 @@ valueRows g v = valueRow g v ∷ []
 
 -- the loop over the data longwords of the module with GEO g; the set holds the channels before
 abbrev pub Values : (g set : ℕ) → List ℕ → ℕ → ℕ → ℕ → List ℕ → ℕ → ℕ → List ℕ → Type 0
-Values g set ws end = Reached (value g) channels (valueRows g) (Blocked 0 set) ws end []
+Values g = ChannelTurns (value g) (λ v. v .channel) (valueRow g) 0
 
 module _ {g set : ℕ} {ws : List ℕ} {end i₀ k₀ i k : ℕ} {b₀ b : List ℕ} (h : Values g set ws end i₀ k₀ b₀ i k b) (below : i < end) (long : end ≤ length ws) {w : ℕ} (e : w ≡ getD ws i 0) where
-  judged : value g (h .state) i (slice i end ws) ≡ cond (eqb (valueFault g set w) 0) (ok (valueOf w) (suc i) (slice (suc i) end ws)) (refuse (valueFault g set w) i)
-  judged =
-      let c : slice i end ws ≡ w ∷ slice (suc i) end ws = at-word ws i end below long ∙ rw e in
-      ap (value g (h .state) i) c ∙ value-judged (h .holds) i (slice (suc i) end ws) g w
-
   pub value-refused : {n : ℕ} (after : List ℕ) → n ≡ valueFault g set w → (n ≡ 0 → ⊥) → Scanned (each (valueRows g)) (values g i₀ (slice i₀ end ws)) k₀ b₀ (answer.Refused n i) after
-  value-refused {n} after f z = stop (codes-value g) (λ u v p r. refl) h below long after (judged ∙ rw (← f, ne-eqb n 0 z))
+  value-refused = channel-refused (value g) (λ v. v .channel) (valueRow g) (codes-value g) h below long e (valueFault g set w) (valueOf w) (λ r. value-judged (h .holds) i r g w)
 
   pub value-taken : {channel set′ : ℕ} {b′ : List ℕ} → 0 ≡ valueFault g set w → channel ≡ w / 2 ^ 16 % 2 ^ 5 → set′ ≡ insert set (channel % 32)
       → b′ ≡ storeRow b k (valueRow g (valueOf w)) → length b′ ≡ length b → Values g set′ ws end i₀ k₀ b₀ (i + 1) (k + 1) b′
-  value-taken {channel} f c s q z =
-      let few = h .few in
-      let one : suc i ≡ i + 1 = omega arith in
+  value-taken {channel} f c s =
       let low : channel % 32 ≡ valueOf w .channel = omega arith in
-      let t : value g (h .state) i (slice i end ws) ≡ ok (valueOf w) (i + 1) (slice (i + 1) end ws) = judged ∙ rw (← f, one) in
-      step (codes-value g) (λ u v p r. refl) h below long t (rw (s, low) (blocked-more (valueOf w .channel) (h .holds))) (omega arith) (omega arith) refl q z
+      channel-taken (value g) (λ v. v .channel) (valueRow g) (codes-value g) h below long e (valueFault g set w) (valueOf w) (λ r. value-judged (h .holds) i r g w)
+      f (s ∙ ap (insert set) low)
 
 -- the data longwords from `first` up to i are good: with their rows stored, from row k of the buffer on, the loop has reached i
 pub record ValuesTo (g set : ℕ) (ws : List ℕ) (end first k : ℕ) (b : List ℕ) (i : ℕ) : Type 0 where

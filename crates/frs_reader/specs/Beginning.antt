@@ -8,9 +8,10 @@ use lib.Dec.{eqb}
 use lib.ListN.{length, getD, drop}
 use Rattle.event.specs.declared.Row.{Row}
 use Rattle.event.specs.Parser.{Result, ok, refuse, ended, many, each}
-use Rattle.event.specs.Scanning.{storeRows, Leads}
-use Rattle.frs_layout.specs.Event.{Stamp}
-use Rattle.frs_layout.specs.Layout.{halves, moduleRows, rows, geos}
+use Rattle.event.specs.Words.{halves}
+use Rattle.event.specs.Scanning.{storeRows, reading, BeginsBy}
+use Rattle.frs_layout.specs.Event.{Stamp, stampIdentifier, word1Identifier, word2Identifier, word3Identifier}
+use Rattle.frs_layout.specs.Layout.{moduleRows, rows, geos}
 use Rattle.frs_layout.specs.Reading.{oneModule, eventParser}
 use Rattle.event.specs.declared.Part.{Part}
 use Rattle.event.specs.declared.Part.the-variants.{Done, Refused}
@@ -18,10 +19,10 @@ use Rattle.event.specs.declared.Part.the-variants.{Done, Refused}
 -- the first wrong longword of the stamp, 4 for none
 unfoldable pub stampFault : List ℕ → ℕ
 stampFault ws =
-    cond (eqb (getD ws 0 0) 0x00000200)
-    (cond (eqb (getD ws 1 0) (halves 0x00f7 (getD ws 1 0 % 2 ^ 16)))
-    (cond (eqb (getD ws 2 0) (halves 0x01f7 (getD ws 2 0 % 2 ^ 16)))
-    (cond (eqb (getD ws 3 0) (halves 0x02f7 (getD ws 3 0 % 2 ^ 16))) 4 3)
+    cond (eqb (getD ws 0 0) stampIdentifier)
+    (cond (eqb (getD ws 1 0) (halves word1Identifier (getD ws 1 0 % 2 ^ 16)))
+    (cond (eqb (getD ws 2 0) (halves word2Identifier (getD ws 2 0 % 2 ^ 16)))
+    (cond (eqb (getD ws 3 0) (halves word3Identifier (getD ws 3 0 % 2 ^ 16))) 4 3)
     2)
     1)
     0
@@ -48,10 +49,5 @@ module _ {A : Type 0} (rowsOf : A → List Row) (x : Result ℕ A) (ws : List �
     pub part : Parsed r
 
 -- what stands before the modules is refused; or the scan of the modules ends as that of the event does
-abbrev pub Begun : List ℕ → List ℕ → List ℕ → Part → Type 0
-Begun ws before after (Done at k) =
-    (at ≤ length ws) × (k ≤ at) × Leads (each moduleRows) (many oneModule geos ended [] at (drop at ws)) k after rows (eventParser (length ws) 0 ws) 0 before
-Begun ws before after (Refused n p) = eventParser (length ws) 0 ws ≡ refuse n p
-
-pub record Begins (ws before after : List ℕ) (r : Part) : Type 0 where
-  pub begun : Begun ws before after r
+abbrev pub Begins : (ws before after : List ℕ) → Part → Type 0
+Begins ws = BeginsBy reading (each moduleRows) (many oneModule geos ended []) rows (eventParser (length ws) 0 ws) ws 0

@@ -5,6 +5,7 @@ use mathlib.Core.Bool.{Bool, false, cond, _||_}
 use lib.Dec.{eqb}
 use Rattle.event.specs.Channels.{present}
 use Rattle.event.specs.Words.{between}
+use Rattle.frs_layout.specs.Event.{scalerGeo, patternGeo}
 use Rattle.frs_layout.specs.Layout.{footerWord, valueWord}
 use Rattle.frs_layout.specs.Reading.{valueOf}
 
@@ -14,7 +15,7 @@ isHeader w = cond (eqb (w / 2 ^ 24 % 2 ^ 3) 6) (eqb (w % 2 ^ 24) 0) (cond (eqb (
 
 -- 6: no header, or a GEO of another unit; 11: a GEO seen; 0 for none
 unfoldable pub headerFault : (seen w : ℕ) → ℕ
-headerFault seen w = cond (isHeader w) (cond (eqb (w / 2 ^ 27) 5 || eqb (w / 2 ^ 27) 6) 6 (cond (present seen (w / 2 ^ 27)) 11 0)) 6
+headerFault seen w = cond (isHeader w) (cond (eqb (w / 2 ^ 27) patternGeo || eqb (w / 2 ^ 27) scalerGeo) 6 (cond (present seen (w / 2 ^ 27)) 11 0)) 6
 
 -- 10: not a data longword of that GEO; 11: a channel seen; 0 for none
 unfoldable pub valueFault : (geo seen w : ℕ) → ℕ

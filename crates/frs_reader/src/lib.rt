@@ -10,9 +10,9 @@ use event::refusal;
 ghost use mathlib.Core.Path.{_≡_};
 ghost use lib.ListN.{length};
 ghost use denote.Ref.{now};
-ghost use Rattle.event.specs.Outcome.{answerOf, given, overlaid};
+ghost use Rattle.event.specs.Outcome.{answerOf, given, overlaid, inRoom};
 ghost use Rattle.event.specs.Rows.{flat, room};
-ghost use Rattle.frs_layout.specs.Reading.{readingInto};
+ghost use Rattle.frs_layout.specs.Reading.{reading};
 
 // What a module's header leads to; a refusal's place is the header's.
 enum Opened {
@@ -24,8 +24,8 @@ enum Opened {
 
 // Reads one event into rows, four elements each. A refused reading leaves every element as it was.
 pub fn read(words: &[u32], rows: &mut [u32]) -> Answer
-    ensures answer { λ r. ⌜ r ≡ answerOf (readingInto (room (length (now (rows .entry)))) (now (words .entry))) ⌝ }
-    ensures buffer { λ _. ⌜ now (rows .exit) ≡ overlaid (flat (given (readingInto (room (length (now (rows .entry)))) (now (words .entry))))) (now (rows .entry)) ⌝ }
+    ensures answer { λ r. ⌜ r ≡ answerOf (inRoom (room (length (now (rows .entry)))) (reading (now (words .entry)))) ⌝ }
+    ensures buffer { λ _. ⌜ now (rows .exit) ≡ overlaid (flat (given (inRoom (room (length (now (rows .entry)))) (reading (now (words .entry)))))) (now (rows .entry)) ⌝ }
 {
     let mut none: [u32; 0] = [];
     let checked = scan(words, &mut none);

@@ -6,7 +6,7 @@ ghost use mathlib.Core.Path.{_≡_};
 ghost use lib.Dec.{eqb};
 ghost use lib.ListN.{length, getD};
 ghost use denote.Ref.{now};
-ghost use Rattle.frs_layout.specs.Layout.{halves};
+ghost use Rattle.event.specs.Words.{halves};
 ghost use Rattle.frs_reader.specs.Longword.{isHeader, headerFault, valueFault, footerFault};
 
 pub(crate) fn word(words: &[u32], at: usize) -> u32

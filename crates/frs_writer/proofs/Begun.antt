@@ -17,7 +17,7 @@ use Rattle.event.specs.Words.{storeWord}
 use Rattle.event.specs.Writing.{ofKind, noRow}
 use Rattle.event.specs.Scanning.{storeWords, writingAll, writingPart, ScannedBy, LeadsBy, Writes}
 use Rattle.event.specs.Demands.{InWidth}
-use Rattle.event.proofs.Leads.{leads-part, store-append, scanned-refuse}
+use Rattle.event.proofs.Leads.{leads-part, store-append, scanned-refuse, begins-refused, begins-done}
 use Rattle.event.proofs.RowJudged.{row-taken, row-refused}
 use Rattle.event.proofs.Sequences.{codes-optionally}
 use Rattle.event.proofs.Ends.{placed}
@@ -26,11 +26,11 @@ use Rattle.event.proofs.WritingTurns.{Wrote, wrote, unwritten, all-refused, all
 use Rattle.frs_layout.specs.Event.{Stamp, PatternUnit, Event, scalerEnd}
 use Rattle.frs_layout.specs.Layout.{stampWords, scalerWords, patternWords, moduleWords, words, stampRow, patternRows, stampChecks, geos, largestEvent}
 use Rattle.frs_layout.specs.Writing.{stampOf, stamp, scaler, patternUnit, atPattern, oneModule, eventRowsUpTo}
+use Rattle.frs_layout.proofs.RowCount.{scaler-count}
 use Rattle.frs_layout.proofs.Rows.{codes-scaler, codes-pattern, codes-one}
 use Rattle.frs_layout.proofs.Width.{words-fit}
 use Rattle.frs_writer.specs.Faults.{stampFault}
 use Rattle.frs_writer.specs.Parts.{Begins}
-use Rattle.frs_writer.proofs.Scalers.{rows-of}
 
 -- the longwords before the modules
 abbrev first : Stamp → List ℕ → Option PatternUnit → List ℕ
@@ -88,7 +88,7 @@ module _ (rs : List Row) (before : List ℕ) {r : Row} (e : r ≡ getD rs 0 noRo
               values = vs;
               parsed = v .parsed ∙ ap (ok vs at) (l .0);
               inside = l .2;
-              few = omega (arith, l .1, rows-of 0 vs, v .counted, length-append vs (scalerEnd ∷ []));
+              few = omega (arith, l .1, scaler-count 0 vs, v .counted, length-append vs (scalerEnd ∷ []));
               counted = omega (arith, v .counted);
               stored = part-written 32 (scalerWords vs) b₁ 4 s lent (v .stored) back ∙ rw stored;
             }
@@ -113,11 +113,11 @@ module _ (rs : List Row) (before : List ℕ) {r : Row} (e : r ≡ getD rs 0 noRo
               part-written 32 ps b₂ k s lent (v .stored) back ∙ ap (λ (l : List ℕ). storeWords 32 l k ps) (t .stored) ∙ ap (λ (m : ℕ). storeWords 32 (storeWords 32 before 0 (stampWords (stampOf r) ++ ss)) m ps) laid
               ∙ sym (store-append (storeWord 32) before 0 (stampWords (stampOf r) ++ ss) ps) in
               record {
-                begun = (
-                  l .2,
-                  omega (arith, t .few, few-words o, v .counted, l .1),
-                  leads-event rs (stampOf r) (t .values) o (stamped .1) (t .parsed) (v .parsed ∙ ap (ok o at′) (l .0)) (omega (arith, t .counted, v .counted, length-append ss ps)) stored,
-                );
+                begun = record {
+                  inside = l .2;
+                  few = omega (arith, t .few, few-words o, v .counted, l .1);
+                  leads = leads-event rs (stampOf r) (t .values) o (stamped .1) (t .parsed) (v .parsed ∙ ap (ok o at′) (l .0)) (omega (arith, t .counted, v .counted, length-append ss ps)) stored;
+                };
               }
 
 -- from the parts before the modules to the event
@@ -126,15 +126,15 @@ module _ {rs : List Row} {before b : List ℕ} {part : Part} (s : Begins rs befo
   Laid = ScannedBy (writingAll 32) words (eventRowsUpTo ended 0 rs) 0 before
 
   pub head-refused : {n p : ℕ} (after : List ℕ) → part ≡ Refused n p → Laid (answer.Refused n p) after
-  head-refused after q = scanned-refuse words 0 before after ((rw q at s) .begun)
+  head-refused after q = scanned-refuse words 0 before after (begins-refused s q)
 
   module _ {at k : ℕ} (q : part ≡ Done at k) where
     pub modules-there : (at ≤ length rs) × (k ≤ 4 * at)
-    modules-there = let h = (rw q at s) .begun in (h .0, h .1)
+    modules-there = let h = begins-done s q in (h .inside, h .few)
 
     module _ {x : Part} {after : List ℕ} (m : Writes 32 (each moduleWords) (many oneModule geos ended [] at (drop at rs)) rs k b x after) where
       whole : ScannedBy (writingPart 32) words (eventRowsUpTo ended 0 rs) 0 before x after
-      whole = (rw q at s) .begun .2 .leads x after (m .scanned)
+      whole = begins-done s q .leads .leads x after (m .scanned)
 
       pub event-refused : {n p : ℕ} → x ≡ Refused n p → Laid (answer.Refused n p) after
       event-refused = all-refused 32 words whole

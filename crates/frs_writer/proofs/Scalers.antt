@@ -17,8 +17,9 @@ use Rattle.event.proofs.RowJudged.{rows-from, row-taken, row-refused}
 use Rattle.event.proofs.Ends.{placed}
 use Rattle.event.proofs.WritingTurns.{counted, WritesOn, rows-done, rows-refused, rows-taken, Wrote, wrote, unwritten, writes-refused, writes-done}
 use Rattle.frs_layout.specs.Event.{scalerGeo, scalerEnd}
-use Rattle.frs_layout.specs.Layout.{headerWord, scalerWords, scalerRow, scalerRowsFrom, scalerBlockRow, countChecks, scalerChecks}
+use Rattle.frs_layout.specs.Layout.{headerWord, scalerWords, scalerRow, scalerBlockRow, countChecks, scalerChecks}
 use Rattle.frs_layout.specs.Writing.{scalerAt, nextIndex, scaler}
+use Rattle.frs_layout.proofs.RowCount.{scaler-count}
 use Rattle.frs_layout.proofs.Rows.{codes-scaler}
 use Rattle.frs_writer.specs.Faults.{blockFault, scalerFault}
 use Rattle.frs_writer.proofs.Parts.{block-stored, one-more, no-more}
@@ -55,10 +56,6 @@ module _ {rs : List Row} {n index i k : ℕ} {b₀ b : List ℕ} (h : Scalers rs
         rows-taken 32 h (one-more scalerAt nextIndex (h .state) i (drop i rs) (n - suc index) left) (rw (h .holds .1) (t .1)) (rw left (omega arith)) (omega arith) (omega arith) refl q z
 
 -- the block around them
-pub rows-of : (i : ℕ) (vs : List ℕ) → length (scalerRowsFrom i vs) ≡ length vs
-rows-of i [] = refl
-rows-of i (v ∷ vs) = ap suc (rows-of (suc i) vs)
-
 module _ (rs : List Row) (b : List ℕ) {r : Row} (e : r ≡ getD rs 1 noRow) where
   abbrev BlockWritten : Part → List ℕ → Type 0
   BlockWritten = Writes 32 scalerWords (scaler 1 (drop 1 rs)) rs 0 b
@@ -99,7 +96,7 @@ module _ (rs : List Row) (b : List ℕ) {r : Row} (e : r ≡ getD rs 1 noRow) wh
             let u = placed codes-scaler rs 1 (omega (arith, block-taken .0)) p in
             let w = codes-scaler .sound 1 (drop 1 rs) (t .value) j (t .input) p .1 in
             let v : scalerBlockRow (length (t .value)) ≡ r = cc (w, rows-from rs 1 (block-taken .0), e) in
-            (ap (λ (x : Row). x .channel) v, omega (arith, u .1, rows-of 0 (t .value)), u .2, t .counted ∙ rw (each-alone (t .value)))
+            (ap (λ (x : Row). x .channel) v, omega (arith, u .1, scaler-count 0 (t .value)), u .2, t .counted ∙ rw (each-alone (t .value)))
 
         pub block-done : {b₂ b₃ : List ℕ} → b₂ ≡ storeWord 32 b₁ 0 (headerWord scalerGeo (r .channel)) → b₃ ≡ storeWord 32 b₂ k scalerEnd → BlockWritten (Done j (k + 1)) b₃
         block-done first last =

@@ -1,15 +1,13 @@
 -- What the parts of an event leave behind when they are written (the contracts of private functions).
 -- Assumes nothing.
-use Prim.Native.Nat.{ℕ, _*_, _≤_}
-use mathlib.Core.Path.{_≡_}
+use Prim.Native.Nat.{ℕ}
 use mathlib.Core.List.{List, [], _∷_}
-use lib.ListN.{length, drop}
+use lib.ListN.{drop}
 use Rattle.event.specs.declared.Part.{Part}
-use Rattle.event.specs.declared.Part.the-variants.{Done, Refused}
 use Rattle.event.specs.declared.Row.{Row}
-use Rattle.event.specs.Parser.{refuse, ended, many, each}
+use Rattle.event.specs.Parser.{ended, many, each}
 use Rattle.event.specs.Channels.{Blocked}
-use Rattle.event.specs.Scanning.{LeadsBy, writingPart, Writes}
+use Rattle.event.specs.Scanning.{writingPart, BeginsBy, Writes}
 use Rattle.frs_layout.specs.Event.{Value}
 use Rattle.frs_layout.specs.Layout.{valueWord, moduleWords, words, geos}
 use Rattle.frs_layout.specs.Writing.{oneModule, eventRowsUpTo}
@@ -23,10 +21,5 @@ pub record WritesModule (set : ℕ) (rs : List Row) (i : ℕ) (before : List ℕ
   pub writes : (seen : List ℕ) → Blocked 0 set seen → Writes 32 moduleWords (oneModule seen i (drop i rs)) rs 0 before r after
 
 -- what stands before the modules is refused; or the writing of the modules ends as that of the event does
-abbrev pub Begun : List Row → List ℕ → List ℕ → Part → Type 0
-Begun rs before after (Done at k) =
-    (at ≤ length rs) × (k ≤ 4 * at) × LeadsBy (writingPart 32) (each moduleWords) (many oneModule geos ended [] at (drop at rs)) k after words (eventRowsUpTo ended 0 rs) 0 before
-Begun rs before after (Refused n p) = eventRowsUpTo ended 0 rs ≡ refuse n p
-
-pub record Begins (rs : List Row) (before after : List ℕ) (r : Part) : Type 0 where
-  pub begun : Begun rs before after r
+abbrev pub Begins : (rs : List Row) (before after : List ℕ) → Part → Type 0
+Begins rs = BeginsBy (writingPart 32) (each moduleWords) (many oneModule geos ended []) words (eventRowsUpTo ended 0 rs) rs 0

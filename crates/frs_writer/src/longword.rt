@@ -5,7 +5,8 @@ ghost use mathlib.Core.Path.{_≡_};
 ghost use mathlib.Core.List.{[], _∷_};
 ghost use denote.Ref.{now};
 ghost use Rattle.event.specs.Scanning.{storeWords};
-ghost use Rattle.frs_layout.specs.Layout.{longword, halves};
+ghost use Rattle.event.specs.Words.{halves};
+ghost use Rattle.frs_layout.specs.Layout.{longword};
 
 // An upper half over 16 data bits.
 pub(crate) fn halves(upper: u32, low: u32) -> u32

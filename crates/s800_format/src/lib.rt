@@ -3,8 +3,9 @@ pub mod tag;
 
 use event::kind;
 ghost use mathlib.Core.Path.{_≡_};
+ghost use Rattle.s800_layout.specs.Event.{triggerTime, flightTime, pairEnergy, energy16, adcEnergy};
 ghost use Rattle.s800_layout.specs.Layout.{pad};
-ghost use Rattle.s800_format.specs.Format.{timesFormat, energiesFormat, adcFormat, pairFormat, opaqueTag};
+ghost use Rattle.s800_format.specs.Format.{timesOf, energiesOf, opaqueTag};
 
 // An event has from 14 to 4,096 words (document 01, 'Dialect S').
 pub const SMALLEST_EVENT: usize = 14;
@@ -31,33 +32,31 @@ pub struct Format {
 
 // Times of channels 8 to 11.
 pub fn trigger_times() -> Format
-    ensures { λ r. ⌜ r ≡ timesFormat 0xf0ff ⌝ }
-{
-    times(0xf0ff)
-}
-
-// Times of channels 4 to 7 and 12 to 15.
-pub fn flight_times() -> Format
-    ensures { λ r. ⌜ r ≡ timesFormat 0x0f0f ⌝ }
-{
-    times(0x0f0f)
-}
-
-// Times of the channels that are not in a set.
-fn times(barred: u32) -> Format
-    ensures { λ r. ⌜ r ≡ timesFormat barred ⌝ }
+    ensures { λ r. ⌜ r ≡ timesOf triggerTime ⌝ }
 {
     Format {
         kind: kind::TIME,
         base: 0,
         wide: false,
-        barred,
+        barred: 0xf0ff,
+    }
+}
+
+// Times of channels 4 to 7 and 12 to 15.
+pub fn flight_times() -> Format
+    ensures { λ r. ⌜ r ≡ timesOf flightTime ⌝ }
+{
+    Format {
+        kind: kind::TIME,
+        base: 0,
+        wide: false,
+        barred: 0x0f0f,
     }
 }
 
 // Energies of channels 0 to 15.
 pub fn energies(base: u32) -> Format
-    ensures { λ r. ⌜ r ≡ energiesFormat base ⌝ }
+    ensures { λ r. ⌜ r ≡ energiesOf base energy16 ⌝ }
 {
     Format {
         kind: kind::ENERGY,
@@ -69,7 +68,7 @@ pub fn energies(base: u32) -> Format
 
 // Energies of 13 bits, of channels 0 to 7.
 pub fn adc_energies(base: u32) -> Format
-    ensures { λ r. ⌜ r ≡ adcFormat base ⌝ }
+    ensures { λ r. ⌜ r ≡ energiesOf base adcEnergy ⌝ }
 {
     Format {
         kind: kind::ENERGY,
@@ -81,7 +80,7 @@ pub fn adc_energies(base: u32) -> Format
 
 // The energies of pairs, of channels 0 to 5.
 pub fn pair_energies() -> Format
-    ensures { λ r. ⌜ r ≡ pairFormat ⌝ }
+    ensures { λ r. ⌜ r ≡ energiesOf 0 pairEnergy ⌝ }
 {
     Format {
         kind: kind::ENERGY,

@@ -18,9 +18,10 @@ use Rattle.event.specs.Scanning.{storeRows}
 use Rattle.event.proofs.Leads.{leads-part, then-then}
 use Rattle.event.proofs.Loops.{to-the-end}
 use Rattle.event.proofs.Impossible.{impossible}
-use Rattle.s800_layout.specs.Event.{Packet, runOf, Event, eventTag, stampTag, numberTag}
-use Rattle.s800_layout.specs.Layout.{version, packetRows, runRows, rows, smallestEvent, largestEvent}
+use Rattle.s800_layout.specs.Event.{runOf, Event, eventTag, stampTag, numberTag}
+use Rattle.s800_layout.specs.Layout.{version, packetRows, rows, smallestEvent, largestEvent}
 use Rattle.s800_layout.specs.Reading.{packetOf, packet, stampContent, stampPacket, numberContent, numberPacket, runUpTo, eventOf, eventParser}
+use Rattle.s800_layout.proofs.Event.{run-rows}
 use Rattle.s800_reader.specs.Head.{frameOf, headFault, headPlace, stampAt, numberAt, stampRows, numberRows, Begins}
 use Rattle.s800_reader.proofs.Extent.{too-short, too-long, body}
 use Rattle.s800_reader.proofs.Runs.{read-whole}
@@ -76,7 +77,7 @@ frame-size ws k e = go (leb smallestEvent (length ws)) refl
     go false s = let h = rw s at e in impossible cc
 
 pub frame-refused : (o : StampOrder) (ws : List ℕ) {before after : List ℕ} {r : Answer} {n p : ℕ} → r ≡ frameOf ws → r ≡ Refused n p → Begins o ws before after r
-frame-refused o ws e q = rw q (record { begun = frame-parsed ws ∙ rw (← e, q) })
+frame-refused o ws e q = rw q (record { begins = record { begun = frame-parsed ws ∙ rw (← e, q) } })
 
 -- a packet with one tag t and one length m
 module _ {A : Type 0} (c : Parser ℕ A) (t m : ℕ) (ws : List ℕ) (start : ℕ) (below : start < length ws) where
@@ -121,10 +122,6 @@ module _ {A : Type 0} (c : Parser ℕ A) (t m : ℕ) (ws : List ℕ) (start : �
   fixed-read : fixed start (drop start ws) ≡ onFault (headFault ws start t m)
   fixed-read = long-enough (leb 2 (getD ws start 0)) refl
 
-run-rows : (qs : List Packet) → runRows (runOf qs) ≡ each packetRows qs
-run-rows [] = refl
-run-rows (q ∷ qs) = ap (packetRows q ++_) (run-rows qs)
-
 module _ (o : StampOrder) (ws : List ℕ) {k : ℕ} (framed : frameOf ws ≡ Accepted k) where
   least : smallestEvent ≤ length ws
   least = frame-size ws k framed
@@ -137,7 +134,7 @@ module _ (o : StampOrder) (ws : List ℕ) {k : ℕ} (framed : frameOf ws ≡ Acc
 
   pub stamp-refused : {before after : List ℕ} {r : Answer} {n : ℕ} → n ≡ headFault ws 3 stampTag 6 → (n ≡ 0 → ⊥) → r ≡ Refused n (headPlace n 3) → Begins o ws before after r
   stamp-refused {n = n} e z q = rw q (record {
-    begun = from-frame ∙ rw (fixed-read stampContent stampTag 6 ws 3 (omega (arith, least)), ← e, ne-eqb n 0 z);
+    begins = record { begun = from-frame ∙ rw (fixed-read stampContent stampTag 6 ws 3 (omega (arith, least)), ← e, ne-eqb n 0 z) };
   })
 
   module _ (fits : (i : ℕ) → getD ws i 0 < 2 ^ 16) (s : 0 ≡ headFault ws 3 stampTag 6) where
@@ -149,7 +146,7 @@ module _ (o : StampOrder) (ws : List ℕ) {k : ℕ} (framed : frameOf ws ≡ Acc
 
     pub number-refused : {before after : List ℕ} {r : Answer} {n : ℕ} → n ≡ headFault ws 9 numberTag 5 → (n ≡ 0 → ⊥) → r ≡ Refused n (headPlace n 9) → Begins o ws before after r
     number-refused {n = n} e z q = rw q (record {
-      begun = from-frame ∙ rw (stamp-read, fixed-read numberContent numberTag 5 ws 9 (omega (arith, least)), ← e, ne-eqb n 0 z);
+      begins = record { begun = from-frame ∙ rw (stamp-read, fixed-read numberContent numberTag 5 ws 9 (omega (arith, least)), ← e, ne-eqb n 0 z) };
     })
 
     module _ (t : 0 ≡ headFault ws 9 numberTag 5) where
@@ -161,11 +158,20 @@ module _ (o : StampOrder) (ws : List ℕ) {k : ℕ} (framed : frameOf ws ≡ Acc
 
       pub begins : {before b₁ after : List ℕ} → b₁ ≡ storeRows before 0 (stampRows o ws) → after ≡ storeRows b₁ 2 (numberRows ws) → Begins o ws before after (Accepted 4)
       begins {before} p q = record {
-        begun = (
-          omega arith,
-          least,
-          rw (q, p, from-frame, stamp-read, number-read, then-then {C = Event} (several packet ended 14 (drop 14 ws)) runOf (λ r. record { stamp = stampAt ws; number = numberAt ws; run = r }))
-              (leads-part (stampRows o ws ++ numberRows ws) (each packetRows) (several packet ended 14 (drop 14 ws))
-              (λ qs. record { stamp = stampAt ws; number = numberAt ws; run = runOf qs }) (rows o) 0 before (λ qs. ap ((stampRows o ws ++ numberRows ws) ++_) (run-rows qs))),
-        );
+        begins = record {
+          begun = record {
+            inside = least;
+            few = omega arith;
+            leads = rw (
+              q,
+              p,
+              from-frame,
+              stamp-read,
+              number-read,
+              then-then {C = Event} (several packet ended 14 (drop 14 ws)) runOf (λ r. record { stamp = stampAt ws; number = numberAt ws; run = r }),
+            )
+                (leads-part (stampRows o ws ++ numberRows ws) (each packetRows) (several packet ended 14 (drop 14 ws))
+                (λ qs. record { stamp = stampAt ws; number = numberAt ws; run = runOf qs }) (rows o) 0 before (λ qs. ap ((stampRows o ws ++ numberRows ws) ++_) (run-rows qs)));
+          };
+        };
       }

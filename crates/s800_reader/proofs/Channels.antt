@@ -6,12 +6,12 @@ use native.Mathlib.Nat.{div-add-mod', mod-lt}
 use mathlib.Core.Path.{_≡_, refl, sym, _∙_}
 use mathlib.Core.Bool.{Bool, true, false, cond, not, _||_}
 use mathlib.Core.List.{List, _∷_}
-use lib.Dec.{eqb}
 use lib.Pow.{pow-pos}
 use borrow.Author.Tests.{eq-eqb, lt-ltb}
 use Rattle.event.specs.Parser.{ok, refuse, fresh}
 use Rattle.event.specs.Channels.{present, Blocked}
 use Rattle.event.proofs.ChannelLaws.{among}
+use Rattle.event.proofs.ChannelTurns.{onFault}
 use Rattle.s800_layout.specs.Reading.{datumOf, datum}
 use Rattle.s800_format.specs.declared.Format.{Format}
 use Rattle.s800_format.specs.Format.{bitsOf, formatOf}
@@ -47,7 +47,7 @@ module _ (m : Format) {w : ℕ} (fits : w < 2 ^ 16) where
 
   -- the word as the layout reads it
   pub judged : {set : ℕ} {seen : List ℕ} → Blocked (m .barred) set seen → (i : ℕ) (r : List ℕ)
-      → datum (formatOf m) seen i (w ∷ r) ≡ cond (eqb (faultOf m set w) 0) (ok (datumOf (formatOf m) w) (suc i) r) (refuse (faultOf m set w) i)
+      → datum (formatOf m) seen i (w ∷ r) ≡ onFault (faultOf m set w) (datumOf (formatOf m) w) i r
   unfolding faultOf
   judged {set} {seen} s i r =
       let p : w ≡ channelOf m w * 2 ^ bitsOf m + w % 2 ^ bitsOf m = sym (div-add-mod' w (2 ^ bitsOf m)) in
@@ -57,7 +57,7 @@ module _ (m : Format) {w : ℕ} (fits : w < 2 ^ 16) where
       (go (present (m .barred) (channelOf m w)) (fresh (channelOf m w) seen))
     where
       go : (a b : Bool) → cond (not a) (cond b (ok (datumOf (formatOf m) w) (suc i) r) (refuse 11 i)) (refuse 10 i)
-          ≡ cond (eqb (cond (a || not b) (cond a 10 11) 0) 0) (ok (datumOf (formatOf m) w) (suc i) r) (refuse (cond (a || not b) (cond a 10 11) 0) i)
+          ≡ onFault (cond (a || not b) (cond a 10 11) 0) (datumOf (formatOf m) w) i r
       go true b = refl
       go false true = refl
       go false false = refl

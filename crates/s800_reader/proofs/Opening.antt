@@ -8,7 +8,7 @@ use mathlib.Core.List.{List, [], _∷_, _++_, map}
 use lib.Dec.{leb}
 use lib.ListN.{length}
 use lib.Seq.{slice, slice-empty}
-use borrow.Author.Tests.{le-leb, leb-true}
+use borrow.Author.Tests.{leb-true}
 use Rattle.event.specs.declared.Answer.the-variants.{Accepted}
 use Rattle.event.specs.declared.Row.{Row}
 use Rattle.event.specs.Parser.{refuse, then, give, each}
@@ -17,13 +17,13 @@ use Rattle.event.specs.Scanning.{storeRows, Scanned}
 use Rattle.event.proofs.Elements.{each-map}
 use Rattle.event.proofs.Leads.{leads-part, leads-done}
 use Rattle.event.proofs.Impossible.{impossible}
-use Rattle.s800_layout.specs.Event.{Datum, Form, Content, ChannelFormat}
+use Rattle.s800_layout.specs.Event.{Datum, Form, Content, ChannelFormat, energy16}
 use Rattle.s800_layout.specs.Layout.{datumRow, packetRows}
 use Rattle.s800_layout.specs.Reading.{allowedLength, channelWords}
 use Rattle.s800_format.specs.declared.Format.{Format}
 use Rattle.s800_reader.specs.declared.Opened.{Opened}
 use Rattle.s800_reader.specs.declared.Opened.the-variants.{Channels, Refused}
-use Rattle.s800_format.specs.Format.{formatOf, energiesFormat}
+use Rattle.s800_format.specs.Format.{formatOf, energiesOf}
 use Rattle.s800_reader.specs.Channel.{channelRows}
 use Rattle.s800_reader.specs.Opening.{PacketAt, restOf, OpensAs}
 
@@ -46,9 +46,6 @@ module _ {ws : List ℕ} {start n k : ℕ} (s : PacketAt ws start n k) (low high
       go : (x : Bool) → not x ≡ true → x ≡ false
       go true q = sym q
       go false q = refl
-
-pub is-between : (low high n : ℕ) → low ≤ n → n ≤ high → between low high n ≡ true
-is-between low high n a b = rw (le-leb low n a, le-leb n high b)
 
 -- refusal m at place p
 pub opens-refused : (f : Form) {ws : List ℕ} {start n k : ℕ} {b after : List ℕ} {r : Opened} {m p : ℕ} → r ≡ Refused m p → restOf f ws start n ≡ refuse m p
@@ -81,7 +78,7 @@ opens-channels f {ws} {start} {n} {k} {b} before m {q} g {at} low same within fe
 
 -- a packet that was scanned whole: no channel words are left
 pub opens-complete : (f : Form) {ws : List ℕ} {start n k k′ : ℕ} {b after : List ℕ} {r : Opened} → Scanned packetRows (restOf f ws start n) k b (Accepted k′) after
-    → k′ ≤ start + n → r ≡ Channels (energiesFormat 0) (start + n) (start + n) k′ → OpensAs f ws start n k b after r
+    → k′ ≤ start + n → r ≡ Channels (energiesOf 0 energy16) (start + n) (start + n) k′ → OpensAs f ws start n k b after r
 opens-complete f {ws} {start} {n} {k} {k′} {b} {after} s few q = rw q (record {
   opens = (
     refl,
@@ -89,7 +86,7 @@ opens-complete f {ws} {start} {n} {k} {k′} {b} {after} s few q = rw q (record 
       base = omega arith;
       inside = omega arith;
       few = few;
-      leads = leads-done (each (channelRows (energiesFormat 0))) {a = []} {j = start + n} {r = []} (rw (slice-empty (start + n) ws)) refl s;
+      leads = leads-done (each (channelRows (energiesOf 0 energy16))) {a = []} {j = start + n} {r = []} (rw (slice-empty (start + n) ws)) refl s;
     },
   );
 })

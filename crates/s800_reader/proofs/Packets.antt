@@ -3,13 +3,13 @@
 use Prim.Native.Nat.{ℕ, suc, _+_, _-_, _≤_, _<_}
 use native.Mathlib.Omega.{arith}
 use mathlib.Core.Path.{_≡_, refl, _∙_}
-use mathlib.Core.Bool.{Bool, true, false, cond, _||_}
-use mathlib.Core.List.{List, [], _∷_, map}
+use mathlib.Core.Bool.{Bool, true, false, cond}
+use mathlib.Core.List.{List}
 use lib.Dec.{T, eqb}
 use lib.ListN.{length, getD, drop}
 use lib.Seq.{slice, length-slice}
-use borrow.Author.Tests.{eq-eqb, eqb-true}
-use Rattle.event.specs.Parser.{Result, ok, refuse, then, give, ended, filled, member}
+use borrow.Author.Tests.{eq-eqb}
+use Rattle.event.specs.Parser.{Result, ok, refuse, then, give, ended, filled}
 use Rattle.event.proofs.Leads.{leads-trans}
 use Rattle.event.proofs.Loops.{leads-filled}
 use Rattle.event.proofs.Impossible.{impossible}

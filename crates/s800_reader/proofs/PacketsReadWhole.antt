@@ -22,7 +22,7 @@ use Rattle.event.proofs.Leads.{leads-part, then-then, refused-scan, scanned-ref
 use Rattle.event.proofs.Loops.{at-end}
 use Rattle.event.proofs.Impossible.{impossible}
 use Rattle.s800_layout.specs.Event.{Sample, Samples, Crdc, Opaque, Form, scintillator, crdc, opaque, Packet, samplesTag, anodeTag, tag}
-use Rattle.s800_layout.specs.Layout.{pairRows, pairChannels, sampleRow, packetRows}
+use Rattle.s800_layout.specs.Layout.{pairRows, pairChannels, sampleRow, packetRow, packetRows}
 use Rattle.s800_layout.specs.Reading.{even, allowedLength, inner, whole, pair, sample, samples, anode}
 use Rattle.s800_layout.proofs.Words.{codes-sample}
 use Rattle.s800_reader.specs.declared.Opened.{Opened}
@@ -56,25 +56,25 @@ long-scintillator n h = go (even n) (leb 2 n)
     go false b = refl
 
 module _ {ws : List ℕ} {start n k : ℕ} (s : PacketAt ws start n k) where
-  pub scintillator-opens : {b b₁ after : List ℕ} (a : Answer) {r : Opened} → (n % 2 ≡ 1 → ⊥) → n ≤ 14 → b₁ ≡ storeRows b k (row 1 0x5810 0 0 ∷ [])
+  pub scintillator-opens : {b b₁ after : List ℕ} (a : Answer) {r : Opened} → (n % 2 ≡ 1 → ⊥) → n ≤ 14 → b₁ ≡ storeRows b k (packetRow (tag scintillator) 0 ∷ [])
       → Scanned (each pairRows) (many pair pairChannels ended [] (start + 2) (slice (start + 2) (start + n) ws)) (k + 1) b₁ a after
       → NoMore (start + n) a → r ≡ openedOf (start + n) a → OpensAs scintillator ws start n k b after r
   scintillator-opens {b} {b₁} {after} a z high q t few e =
       let two = s .two in
       let rest = many pair pairChannels ended [] (start + 2) (slice (start + 2) (start + n) ws) in
       let m = eq-eqb (n % 2) 0 (omega arith) in
-      let l = leads-part (row 1 0x5810 0 0 ∷ []) (each pairRows) rest (λ xs. record { form = scintillator; content = xs }) packetRows k b (λ xs. refl) in
+      let l = leads-part (packetRow (tag scintillator) 0 ∷ []) (each pairRows) rest (λ xs. record { form = scintillator; content = xs }) packetRows k b (λ xs. refl) in
       opens-answer scintillator a (rw (m, le-leb 2 n two, le-leb n 14 high) (l .leads a after (rw q at t))) few e
 
   -- opaque words
-  pub opaque-opens : (o : Opaque) {b b₁ after : List ℕ} {t total : ℕ} {r : Opened} → t ≡ tag (opaque o) → b₁ ≡ storeRows b k (row 1 t 0 0 ∷ [])
+  pub opaque-opens : (o : Opaque) {b b₁ after : List ℕ} {t total : ℕ} {r : Opened} → t ≡ tag (opaque o) → b₁ ≡ storeRows b k (packetRow t 0 ∷ [])
       → Scanned (each opaqueRows) (several whole ended (start + 2) (slice (start + 2) (start + n) ws)) (k + 1) b₁ (Accepted total) after → total ≤ start + n
       → r ≡ openedOf (start + n) (Accepted total) → OpensAs (opaque o) ws start n k b after r
   opaque-opens o {b} {b₁} {after} {t} {total} p q u few e =
       let two = s .two in
       let rest = several whole ended (start + 2) (slice (start + 2) (start + n) ws) in
-      let l = leads-part (row 1 (tag (opaque o)) 0 0 ∷ []) (each opaqueRows) rest (λ xs. record { form = opaque o; content = xs }) packetRows k b
-      (λ xs. ap (row 1 (tag (opaque o)) 0 0 ∷_) (sym (each-map (row 11 0 0) xs))) in
+      let l = leads-part (packetRow (tag (opaque o)) 0 ∷ []) (each opaqueRows) rest (λ xs. record { form = opaque o; content = xs }) packetRows k b
+      (λ xs. ap (packetRow (tag (opaque o)) 0 ∷_) (sym (each-map (row 11 0 0) xs))) in
       opens-answer (opaque o) (Accepted total) (rw (le-leb 2 n two) (l .leads (Accepted total) after (rw (q, p) at u))) few e
 
 -- the anode's inner packet
@@ -195,7 +195,7 @@ module _ {ws : List ℕ} {start n : ℕ} (h : CrdcHead ws start n) (long : start
       let u : b₂ ≡ storeRows b k before = t .stored ∙ rw q (sym (store-append storeRow b k (crdcHeadRows ws start) (each sampleRows xs))) in
       let w = at-end (codes-several ended codes-sample (λ s g r. refl) refl) (ends-many ended (λ u. sample) alone tt) (start + 6) (start + n - 4) ws (omega arith) (omega arith) xs j r e in
       rw (p, u, sampled xs w) (leads-part before anodeRows (inner 4 anodeTag anode (start + n - 4) (slice (start + n - 4) (start + n) ws)) _ packetRows k b
-      (λ a. ap (λ (l : List Row). row 1 (tag crdc) (getD ws (start + 2) 0) 0 ∷ row 7 0 0 (getD ws (start + 5) 0) ∷ (l ++ anodeRows a)) (sym (each-map sampleRow xs))))
+      (λ a. ap (λ (l : List Row). packetRow (tag crdc) (getD ws (start + 2) 0) ∷ row 7 0 0 (getD ws (start + 5) 0) ∷ (l ++ anodeRows a)) (sym (each-map sampleRow xs))))
 
   pub crdc-whole : {k k₁ : ℕ} {b b₁ b₂ after : List ℕ} {s a : Answer} {r : Opened} → b₁ ≡ storeRows b k (crdcHeadRows ws start)
       → Scanned (each sampleRows) (samplesFrom ws start n) (k + 2) b₁ s b₂ → s ≡ Accepted k₁

@@ -1,30 +1,27 @@
 -- The scan of a whole event: the packets after the first 14 words, one after another. Over plain values.
 -- Assumes nothing.
-use Prim.Native.Nat.{ℕ, suc, _+_, _%_, _^_, _≤_, _<_}
+use Prim.Native.Nat.{ℕ, _+_, _%_, _^_, _≤_, _<_}
 use native.Mathlib.Nat.{le-refl}
 use native.Mathlib.Omega.{arith}
 use mathlib.Core.Path.{_≡_, refl, ap, sym, _∙_}
-use mathlib.Core.Bool.{cond}
-use mathlib.Core.List.{List, [], _∷_}
-use lib.Dec.{eqb}
+use mathlib.Core.List.{List}
 use lib.ListN.{length, getD, drop}
 use lib.Seq.{slice, drop-cons}
-use borrow.Author.Tests.{ne-eqb}
 use Rattle.event.specs.declared.Answer.{Answer}
 use Rattle.event.specs.declared.Answer.the-variants as answer
 use Rattle.event.specs.declared.StampOrder.{StampOrder}
 use Rattle.event.specs.Parser.{Result, ok, refuse, ended, several, each, alone}
-use Rattle.event.specs.Channels.{insert, Blocked}
+use Rattle.event.specs.Channels.{insert}
 use Rattle.event.specs.Rows.{storeRow}
 use Rattle.event.specs.Scanning.{Scanned}
-use Rattle.event.proofs.ChannelLaws.{blocked-more}
+use Rattle.event.proofs.ChannelTurns.{ChannelTurns, channel-refused, channel-taken}
 use Rattle.event.proofs.Ends.{placed}
-use Rattle.event.proofs.Leads.{refused-scan, scanned-refuse}
+use Rattle.event.proofs.Leads.{refused-scan, scanned-refuse, begins-refused, begins-done}
 use Rattle.event.proofs.Loops.{to-the-end}
-use Rattle.event.proofs.Turns.{Reached, begin, stop, step, at-word}
+use Rattle.event.proofs.Turns.{Reached, begin, stop, step}
 use Rattle.event.proofs.Impossible.{impossible}
 use Rattle.s800_layout.specs.Event.{Packet}
-use Rattle.s800_layout.specs.Layout.{contentWords, packetRows, rows, channels}
+use Rattle.s800_layout.specs.Layout.{contentWords, packetRows, rows}
 use Rattle.s800_layout.specs.Reading.{datum, datumOf, channelWords, packet, eventParser}
 use Rattle.s800_layout.proofs.Words.{codes-datum, codes-packet}
 use Rattle.s800_format.specs.declared.Format.{Format}
@@ -32,7 +29,7 @@ use Rattle.s800_reader.specs.declared.Opened.{Opened}
 use Rattle.s800_reader.specs.declared.Opened.the-variants.{Channels, Refused}
 use Rattle.s800_format.specs.Format.{formatOf}
 use Rattle.s800_reader.specs.Channel.{channelOf, faultOf, channelRow, channelRows}
-use Rattle.s800_reader.specs.Head.{Begins}
+use Rattle.s800_reader.specs.Head.{partTo, Begins}
 use Rattle.s800_reader.specs.Opening.{OpensPacket}
 use Rattle.s800_reader.proofs.Channels.{judged, low-bit}
 
@@ -89,39 +86,29 @@ module _ {ws : List ℕ} {i₀ k₀ i k : ℕ} {b₀ b : List ℕ} (h : Packets 
 
 -- the loop over the channel words of a packet; `blocked` holds the barred channels, and those before
 abbrev pub ChannelRun : Format → ℕ → List ℕ → ℕ → ℕ → ℕ → List ℕ → ℕ → ℕ → List ℕ → Type 0
-ChannelRun m blocked ws end = Reached (datum (formatOf m)) channels (channelRows m) (Blocked (m .barred) blocked) ws end []
+ChannelRun m = ChannelTurns (datum (formatOf m)) (λ d. d .channel) (channelRow m) (m .barred)
 
 module _ (m : Format) {blocked : ℕ} {ws : List ℕ} {end i₀ k₀ i k : ℕ} {b₀ b : List ℕ} (h : ChannelRun m blocked ws end i₀ k₀ b₀ i k b) (below : i < end)
     (long : end ≤ length ws) {w : ℕ} (e : w ≡ getD ws i 0) (fits : w < 2 ^ 16) where
-  word : datum (formatOf m) (h .state) i (slice i end ws) ≡ cond (eqb (faultOf m blocked w) 0) (ok (datumOf (formatOf m) w) (suc i) (slice (suc i) end ws)) (refuse (faultOf m blocked w) i)
-  word =
-      let c : slice i end ws ≡ w ∷ slice (suc i) end ws = at-word ws i end below long ∙ rw e in
-      ap (datum (formatOf m) (h .state) i) c ∙ judged m fits (h .holds) i (slice (suc i) end ws)
-
   pub word-refused : {n : ℕ} (after : List ℕ) → n ≡ faultOf m blocked w → (n ≡ 0 → ⊥)
       → Scanned (each (channelRows m)) (channelWords (formatOf m) i₀ (slice i₀ end ws)) k₀ b₀ (answer.Refused n i) after
-  word-refused {n} after f z = stop (codes-datum (formatOf m)) (λ u d g r. refl) h below long after (word ∙ rw (← f, ne-eqb n 0 z))
+  word-refused = channel-refused (datum (formatOf m)) (λ d. d .channel) (channelRow m) (codes-datum (formatOf m)) h below long e (faultOf m blocked w) (datumOf (formatOf m) w)
+      (judged m fits (h .holds) i)
 
   pub word-taken : {channel blocked′ : ℕ} {b′ : List ℕ} → 0 ≡ faultOf m blocked w → channel ≡ channelOf m w → blocked′ ≡ insert blocked (channel % 32)
       → b′ ≡ storeRow b k (channelRow m (datumOf (formatOf m) w)) → length b′ ≡ length b → ChannelRun m blocked′ ws end i₀ k₀ b₀ (i + 1) (k + 1) b′
-  word-taken f c s q z =
-      let few = h .few in
-      let one : suc i ≡ i + 1 = omega arith in
-      let t : datum (formatOf m) (h .state) i (slice i end ws) ≡ ok (datumOf (formatOf m) w) (i + 1) (slice (i + 1) end ws) = word ∙ rw (← f, one) in
-      step (codes-datum (formatOf m)) (λ u d g r. refl) h below long t (rw (s, low-bit m fits c) (blocked-more (channelOf m w) (h .holds))) (omega arith) (omega arith) refl q z
+  word-taken f c s = channel-taken (datum (formatOf m)) (λ d. d .channel) (channelRow m) (codes-datum (formatOf m)) h below long e (faultOf m blocked w) (datumOf (formatOf m) w)
+      (judged m fits (h .holds) i) f (s ∙ ap (insert blocked) (low-bit m fits c))
 
 -- the first 14 words, then the packets
 module _ {o : StampOrder} {ws before b : List ℕ} {r : Answer} {k : ℕ} (s : Begins o ws before b r) (q : r ≡ answer.Accepted k) where
-  begun : Begins o ws before b (answer.Accepted k)
-  begun = rw q at s
-
   pub packets-begin : Packets ws 14 k b 14 k b
-  packets-begin = begin tt (begun .begun .1) (begun .begun .0)
+  packets-begin = let h = begins-done (s .begins) (ap (partTo 14) q) in begin tt (h .inside) (h .few)
 
   pub whole-event : {a : Answer} {after : List ℕ} → Scanned (each packetRows) (several packet ended 14 (slice 14 (length ws) ws)) k b a after
       → Scanned (rows o) (eventParser (length ws) 0 ws) 0 before a after
-  whole-event {a} {after} t = begun .begun .2 .leads a after (rw (to-the-end 14 ws) t)
+  whole-event {a} {after} t = begins-done (s .begins) (ap (partTo 14) q) .leads .leads a after (rw (to-the-end 14 ws) t)
 
 pub head-refused : {o : StampOrder} {ws before b : List ℕ} {r : Answer} {n p : ℕ} → Begins o ws before b r → r ≡ answer.Refused n p
     → Scanned (rows o) (eventParser (length ws) 0 ws) 0 before r b
-head-refused {o} {b = b} s q = rw q (scanned-refuse (rows o) 0 _ b ((rw q at s) .begun))
+head-refused {o} {b = b} s q = rw q (scanned-refuse (rows o) 0 _ b (begins-refused (s .begins) (ap (partTo 14) q)))

@@ -13,17 +13,17 @@ use borrow.Author.Tests.{eq-eqb, ne-eqb, lt-ltb, le-ltb}
 use Rattle.event.specs.declared.Answer.{Answer}
 use Rattle.event.specs.declared.Answer.the-variants.{Refused}
 use Rattle.event.specs.Parser.{ok, refuse, then, ended, many, several, each, alone}
-use Rattle.event.specs.Channels.{present, insert, others, Blocked}
+use Rattle.event.specs.Channels.{insert, Blocked}
 use Rattle.event.specs.Rows.{row, storeRow}
 use Rattle.event.specs.Scanning.{storeRows, Scanned}
 use Rattle.event.proofs.ChannelLaws.{blocked-more}
+use Rattle.event.proofs.ChannelTurns.{onFault}
 use Rattle.event.proofs.Turns.{Reached, at-word, step, stop}
-use Rattle.s800_format.proofs.Formats.{pair-format}
+use Rattle.s800_format.proofs.Formats.{pairFormat, pair-format}
 use Rattle.s800_layout.specs.Event.{ChannelFormat, pairEnergy}
 use Rattle.s800_layout.specs.Layout.{channelWord, sampleHeadWord, sampleDatumWord, sampleRow, pairRows, pairChannels}
 use Rattle.s800_layout.specs.Reading.{whole, datumOf, datum, pair, sampleHeadOf, sampleDatumOf, sample}
 use Rattle.s800_layout.proofs.Words.{codes-whole, codes-pair, codes-sample}
-use Rattle.s800_format.specs.Format.{formatOf, pairFormat}
 use Rattle.s800_reader.specs.Channel.{faultOf, opaqueRows, sampleRows, sampleOf, pairOf}
 use Rattle.s800_reader.proofs.Channels.{judged}
 
@@ -98,9 +98,9 @@ module _ {ws : List ℕ} {end i₀ k₀ i k : ℕ} {b₀ b : List ℕ} (h : Samp
 -- a pair of two words, after the channels of a set
 module _ {set : ℕ} {seen : List ℕ} (s : Blocked (pairFormat .barred) set seen) (i : ℕ) {v : ℕ} (f : v < 2 ^ 16) (w : ℕ) (r : List ℕ) where
   energy-judged : datum pairEnergy seen i (v ∷ w ∷ r)
-      ≡ cond (eqb (faultOf pairFormat set v) 0) (ok (datumOf pairEnergy v) (suc i) (w ∷ r)) (refuse (faultOf pairFormat set v) i)
+      ≡ onFault (faultOf pairFormat set v) (datumOf pairEnergy v) i (w ∷ r)
   energy-judged =
-      subst (λ (q : ChannelFormat). datum q seen i (v ∷ w ∷ r) ≡ cond (eqb (faultOf pairFormat set v) 0) (ok (datumOf q v) (suc i) (w ∷ r)) (refuse (faultOf pairFormat set v) i))
+      subst (λ (q : ChannelFormat). datum q seen i (v ∷ w ∷ r) ≡ onFault (faultOf pairFormat set v) (datumOf q v) i (w ∷ r))
       pair-format (judged pairFormat f s i (w ∷ r))
 
   pair-energy : (n : ℕ) → n ≡ faultOf pairFormat set v → (n ≡ 0 → ⊥) → pair seen i (v ∷ w ∷ r) ≡ refuse n i

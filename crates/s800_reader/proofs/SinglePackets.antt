@@ -1,8 +1,8 @@
 -- A hodoscope's hits, and the one energy of an object pin: over plain values.
 -- Assumes nothing.
-use Prim.Native.Nat.{ℕ, suc, _+_, _^_, _≤_, _<_}
+use Prim.Native.Nat.{ℕ, suc, _+_, _^_, _<_}
 use native.Mathlib.Omega.{arith}
-use mathlib.Core.Path.{_≡_, refl, ap, sym, _∙_, subst}
+use mathlib.Core.Path.{_≡_, refl, sym, _∙_, subst}
 use mathlib.Core.Bool.{Bool, true, false, cond}
 use mathlib.Core.List.{List, [], _∷_, _++_}
 use lib.Dec.{eqb}
@@ -14,29 +14,22 @@ use Rattle.event.specs.Parser.{Result, ok, refuse, then, give, each}
 use Rattle.event.specs.Rows.{row}
 use Rattle.event.specs.Scanning.{storeRows, Leads}
 use Rattle.event.proofs.ChannelLaws.{blocked-none}
+use Rattle.event.proofs.Elements.{is-between}
 use Rattle.event.proofs.Leads.{leads-part, leads-trans}
-use Rattle.event.proofs.Turns.{at-word}
-use Rattle.s800_layout.specs.Event.{Datum, hits, hodoscope, objectPin, Packet, ChannelFormat}
-use Rattle.s800_layout.specs.Layout.{packetRows}
+use Rattle.event.proofs.Turns.{at-word, three-words}
+use Rattle.s800_layout.specs.Event.{Datum, hits, hodoscope, objectPin, Packet, tag, hitsId, ChannelFormat, energy16}
+use Rattle.s800_layout.specs.Layout.{packetRow, packetRows}
 use Rattle.s800_layout.specs.Reading.{datum, datumOf, channelWords}
 use Rattle.s800_format.specs.declared.Format.{Format}
 use Rattle.s800_reader.specs.declared.Opened.{Opened}
 use Rattle.s800_reader.specs.declared.Opened.the-variants.{Channels, Refused}
-use Rattle.s800_format.specs.Format.{formatOf, energiesFormat}
+use Rattle.s800_format.specs.Format.{formatOf, energiesOf}
 use Rattle.s800_reader.specs.Channel.{faultOf, channelRows}
 use Rattle.s800_reader.specs.Opening.{PacketAt, HodoscopeHits, restOf, OpensAs}
 use Rattle.s800_reader.proofs.Channels.{judged}
-use Rattle.s800_reader.proofs.Opening.{is-between, opens-refused, opens-complete}
+use Rattle.s800_reader.proofs.Opening.{opens-refused, opens-complete}
 use Rattle.s800_format.proofs.Formats.{energies-format}
 use Rattle.s800_reader.proofs.ChannelPackets.{first-word}
-
-three-words : (ws : List ℕ) (i : ℕ) → i + 3 ≤ length ws → slice i (i + 3) ws ≡ getD ws i 0 ∷ getD ws (i + 1) 0 ∷ getD ws (i + 2) 0 ∷ []
-three-words ws i l =
-    let one : suc i ≡ i + 1 = omega arith in
-    let two : suc (i + 1) ≡ i + 2 = omega arith in
-    let three : suc (i + 2) ≡ i + 3 = omega arith in
-    at-word ws i (i + 3) (omega arith) l ∙ rw one (ap (getD ws i 0 ∷_) (at-word ws (i + 1) (i + 3) (omega arith) l ∙ rw two (ap (getD ws (i + 1) 0 ∷_)
-    (at-word ws (i + 2) (i + 3) (omega arith) l ∙ rw (three, slice-empty (i + 3) ws)))))
 
 module _ {ws : List ℕ} {start n k : ℕ} (s : PacketAt ws start n k) (h : HodoscopeHits ws start n) where
   pub hits-length : {b after : List ℕ} {r : Opened} → (n ≡ 6 → ⊥) → r ≡ Refused 7 start → OpensAs hodoscope ws start n k b after r
@@ -69,7 +62,8 @@ module _ {ws : List ℕ} {start n k : ℕ} (s : PacketAt ws start n k) (h : Hodo
           six-on,
         )
 
-    pub hits-opens : {before after : List ℕ} {r : Opened} → after ≡ storeRows before k (row 1 0x58b0 2 0 ∷ row 10 u v w ∷ []) → r ≡ Channels (energiesFormat 0) (start + n) (start + n) (k + 2)
+    pub hits-opens : {before after : List ℕ} {r : Opened} → after ≡ storeRows before k (packetRow (tag hodoscope) hitsId ∷ row 10 u v w ∷ [])
+        → r ≡ Channels (energiesOf 0 energy16) (start + n) (start + n) (k + 2)
         → OpensAs hodoscope ws start n k before after r
     hits-opens e q = opens-complete hodoscope (rw hits-read (record { answered = refl; stored = e })) (let few = s .few in omega arith) q
 
@@ -87,15 +81,17 @@ module _ {ws : List ℕ} {start n k : ℕ} (s : PacketAt ws start n k) (three : 
   abbrev energy : ℕ
   energy = getD ws (start + 2) 0
 
-  pub pin-opens : {b after : List ℕ} → after ≡ storeRows b k (row 1 0x58a0 0 0 ∷ []) → OpensAs objectPin ws start n k b after (Channels (energiesFormat 0) (start + 2) (start + n) (k + 1))
+  pub pin-opens : {b after : List ℕ} → after ≡ storeRows b k (packetRow (tag objectPin) 0 ∷ [])
+      → OpensAs objectPin ws start n k b after (Channels (energiesOf 0 energy16) (start + 2) (start + n) (k + 1))
   pin-opens {b} q =
       let few = s .few in
-      let m = energiesFormat 0 in
+      let m = energiesOf 0 energy16 in
       let end : start + n ≡ suc (start + 2) = omega arith in
       let word : slice (start + 2) (start + n) ws ≡ energy ∷ [] = at-word ws (start + 2) (start + n) (omega arith) (s .inside) ∙ rw (end, slice-empty (suc (start + 2)) ws) in
       let j = judged m fits blocked-none (start + 2) [] in
-      let l = one-word m (start + 2) energy (λ d. record { form = objectPin; content = d }) (row 1 0x58a0 0 0 ∷ []) (λ d. refl) k b (eqb (faultOf m 0 energy) 0) (faultOf m 0 energy) (datumOf (formatOf m) energy) j in
-      let p = subst (λ (f : ChannelFormat). Leads (each (channelRows m)) (channelWords (formatOf m) (start + 2) (energy ∷ [])) (k + 1) (storeRows b k (row 1 0x58a0 0 0 ∷ []))
+      let l = one-word m (start + 2) energy (λ d. record { form = objectPin; content = d }) (packetRow (tag objectPin) 0 ∷ []) (λ d. refl) k b
+      (eqb (faultOf m 0 energy) 0) (faultOf m 0 energy) (datumOf (formatOf m) energy) j in
+      let p = subst (λ (f : ChannelFormat). Leads (each (channelRows m)) (channelWords (formatOf m) (start + 2) (energy ∷ [])) (k + 1) (storeRows b k (packetRow (tag objectPin) 0 ∷ []))
       packetRows (then (λ x. give (record { form = objectPin; content = x })) (datum f [] (start + 2) (energy ∷ []))) k b) (energies-format 0) l in
       record {
         opens = (

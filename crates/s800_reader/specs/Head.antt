@@ -1,21 +1,21 @@
 -- The first 14 words of an event, as the code reads them (the contracts of private functions).
 -- Assumes nothing.
-use Prim.Native.Nat.{ℕ, _+_, _-_, _≤_}
-use mathlib.Core.Path.{_≡_}
+use Prim.Native.Nat.{ℕ, _+_, _-_}
 use mathlib.Core.Bool.{cond}
 use mathlib.Core.List.{List, [], _∷_}
 use lib.Dec.{eqb, leb}
-use lib.ListN.{length, getD, drop}
+use lib.ListN.{length, getD}
 use Rattle.event.specs.declared.Answer.{Answer}
 use Rattle.event.specs.declared.Answer.the-variants.{Accepted, Refused}
+use Rattle.event.specs.declared.Part.{Part}
+use Rattle.event.specs.declared.Part.the-variants as part
 use Rattle.event.specs.declared.Row.{Row}
 use Rattle.event.specs.declared.StampOrder.{StampOrder}
-use Rattle.event.specs.Parser.{refuse, ended, several, each}
+use Rattle.event.specs.Parser.{ended, several, each}
 use Rattle.event.specs.Words.{between}
-use Rattle.event.specs.Rows.{row}
-use Rattle.event.specs.Scanning.{Leads}
+use Rattle.event.specs.Scanning.{reading, BeginsBy}
 use Rattle.s800_layout.specs.Event.{Stamp, Number, eventTag, stampTag, numberTag}
-use Rattle.s800_layout.specs.Layout.{version, stampRow, numberRow, packetRows, rows, smallestEvent, largestEvent}
+use Rattle.s800_layout.specs.Layout.{version, packetRow, stampRow, numberRow, packetRows, rows, smallestEvent, largestEvent}
 use Rattle.s800_layout.specs.Reading.{packet, eventParser}
 
 -- refusals 1 to 4
@@ -54,16 +54,16 @@ numberAt ws = record { chunk0 = getD ws 11 0; chunk1 = getD ws 12 0; chunk2 = ge
 
 -- the rows of the stamp packet, and of the event number packet
 abbrev pub stampRows : StampOrder → List ℕ → List Row
-stampRows o ws = row 1 stampTag 0 0 ∷ stampRow o (stampAt ws) ∷ []
+stampRows o ws = packetRow stampTag 0 ∷ stampRow o (stampAt ws) ∷ []
 
 abbrev pub numberRows : List ℕ → List Row
-numberRows ws = row 1 numberTag 0 0 ∷ numberRow (numberAt ws) ∷ []
+numberRows ws = packetRow numberTag 0 ∷ numberRow (numberAt ws) ∷ []
+
+-- the answer to a part of the words that ends at a place
+abbrev pub partTo : (end : ℕ) → Answer → Part
+partTo end (Accepted k) = part.Done end k
+partTo end (Refused n p) = part.Refused n p
 
 -- the first 14 words are refused; or the scan of the packets after them ends as that of the event does
-abbrev pub Begun : StampOrder → List ℕ → List ℕ → List ℕ → Answer → Type 0
-Begun o ws before after (Accepted k) =
-    (k ≤ 14) × (14 ≤ length ws) × Leads (each packetRows) (several packet ended 14 (drop 14 ws)) k after (rows o) (eventParser (length ws) 0 ws) 0 before
-Begun o ws before after (Refused n p) = eventParser (length ws) 0 ws ≡ refuse n p
-
-pub record Begins (o : StampOrder) (ws : List ℕ) (before after : List ℕ) (r : Answer) : Type 0 where
-  pub begun : Begun o ws before after r
+pub record Begins (o : StampOrder) (ws before after : List ℕ) (r : Answer) : Type 0 where
+  pub begins : BeginsBy reading (each packetRows) (several packet ended) (rows o) (eventParser (length ws) 0 ws) ws 0 before after (partTo 14 r)

@@ -11,13 +11,13 @@ use Rattle.event.specs.declared.Row.{Row}
 use Rattle.event.specs.Parser.{Result, refuse, _>>_, require, each}
 use Rattle.event.specs.Rows.{row}
 use Rattle.event.specs.Scanning.{Leads}
-use Rattle.s800_layout.specs.Event.{Form, crdc, Packet, samplesTag, tag}
-use Rattle.s800_layout.specs.Layout.{packetRows}
+use Rattle.s800_layout.specs.Event.{Form, crdc, Packet, samplesTag, tag, hitsId, largestId, energy16}
+use Rattle.s800_layout.specs.Layout.{packetRow, packetRows}
 use Rattle.s800_layout.specs.Reading.{allowedLength, channelWords, packetContent, packet}
 use Rattle.s800_format.specs.declared.Format.{Format}
 use Rattle.s800_reader.specs.declared.Opened.{Opened}
 use Rattle.s800_reader.specs.declared.Opened.the-variants.{Channels, Refused}
-use Rattle.s800_format.specs.Format.{formatOf, energiesFormat}
+use Rattle.s800_format.specs.Format.{formatOf, energiesOf}
 use Rattle.s800_reader.specs.Channel.{channelRows}
 
 -- a packet of n words at `start` lies within the words, after no more rows than words
@@ -34,23 +34,23 @@ restOf f ws start n = (require (allowedLength f n) 7 start >> packetContent f st
 pub record HodoscopeHits (ws : List ℕ) (start n : ℕ) : Type 0 where
   pub least : 3 ≤ n
   pub most : n ≤ 19
-  pub id : getD ws (start + 2) 0 ≡ 2
+  pub id : getD ws (start + 2) 0 ≡ hitsId
 
 -- a CRDC's packet, of a length that its tag allows, right up to its threshold; the rows up to there
 pub record CrdcHead (ws : List ℕ) (start n : ℕ) : Type 0 where
   pub even : n % 2 ≡ 0
   pub least : 10 ≤ n
-  pub id : getD ws (start + 2) 0 ≤ 1
+  pub id : getD ws (start + 2) 0 ≤ largestId crdc
   pub samplesLength : getD ws (start + 3) 0 ≡ n - 7
   pub itsTag : getD ws (start + 4) 0 ≡ samplesTag
   pub threshold : getD ws (start + 5) 0 < 2 ^ 16
 
 abbrev pub crdcHeadRows : List ℕ → ℕ → List Row
-crdcHeadRows ws start = row 1 (tag crdc) (getD ws (start + 2) 0) 0 ∷ row 7 0 0 (getD ws (start + 5) 0) ∷ []
+crdcHeadRows ws start = packetRow (tag crdc) (getD ws (start + 2) 0) ∷ row 7 0 0 (getD ws (start + 5) 0) ∷ []
 
 -- a packet whose content was read whole, or refused
 abbrev pub openedOf : ℕ → Answer → Opened
-openedOf end (answer.Accepted k) = Channels (energiesFormat 0) end end k
+openedOf end (answer.Accepted k) = Channels (energiesOf 0 energy16) end end k
 openedOf end (answer.Refused n p) = Refused n p
 
 module _ {A : Type 0} (ws : List ℕ) (end : ℕ) (rowsOf : A → List Row) (x : Result ℕ A) (k₀ : ℕ) (before after : List ℕ) where

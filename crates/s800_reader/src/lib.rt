@@ -17,9 +17,9 @@ use s800_format::Format;
 ghost use mathlib.Core.Path.{_≡_};
 ghost use lib.ListN.{length};
 ghost use denote.Ref.{now};
-ghost use Rattle.event.specs.Outcome.{answerOf, given, overlaid};
+ghost use Rattle.event.specs.Outcome.{answerOf, given, overlaid, inRoom};
 ghost use Rattle.event.specs.Rows.{flat, room};
-ghost use Rattle.s800_layout.specs.Reading.{readingInto};
+ghost use Rattle.s800_layout.specs.Reading.{reading};
 
 // What the first words of a packet lead to.
 enum Opened {
@@ -38,8 +38,8 @@ enum Opened {
 
 // Reads one event into rows, four elements each. A refused reading leaves every element as it was.
 pub fn read(words: &[u16], order: StampOrder, rows: &mut [u32]) -> Answer
-    ensures answer { λ r. ⌜ r ≡ answerOf (readingInto (room (length (now (rows .entry)))) order (now (words .entry))) ⌝ }
-    ensures buffer { λ _. ⌜ now (rows .exit) ≡ overlaid (flat (given (readingInto (room (length (now (rows .entry)))) order (now (words .entry))))) (now (rows .entry)) ⌝ }
+    ensures answer { λ r. ⌜ r ≡ answerOf (inRoom (room (length (now (rows .entry)))) (reading order (now (words .entry)))) ⌝ }
+    ensures buffer { λ _. ⌜ now (rows .exit) ≡ overlaid (flat (given (inRoom (room (length (now (rows .entry)))) (reading order (now (words .entry)))))) (now (rows .entry)) ⌝ }
 {
     let mut none: [u32; 0] = [];
     let checked = scan(words, order, &mut none);

@@ -9,7 +9,9 @@ ghost use mathlib.Core.Path.{_≡_};
 ghost use denote.Ref.{now};
 ghost use Rattle.event.specs.Rows.{row, storeRow};
 ghost use Rattle.event.specs.Words.{between};
-ghost use Rattle.s800_format.specs.Format.{energiesFormat};
+ghost use Rattle.s800_layout.specs.Event.{energy16};
+ghost use Rattle.s800_layout.specs.Layout.{packetRow};
+ghost use Rattle.s800_format.specs.Format.{energiesOf};
 ghost use Rattle.s800_reader.specs.Opening.{openedOf};
 
 pub(crate) fn between(size: usize, least: usize, most: usize) -> bool
@@ -32,7 +34,7 @@ pub(crate) fn refuse_packet(number: u32, place: usize) -> Opened
 
 // A packet that is read whole: no channel words are left.
 pub(crate) fn complete(end: usize, count: usize) -> Opened
-    ensures { λ r. ⌜ r ≡ Opened.Channels (energiesFormat 0) end end count ⌝ }
+    ensures { λ r. ⌜ r ≡ Opened.Channels (energiesOf 0 energy16) end end count ⌝ }
 {
     Opened::Channels {
         format: energies(0),
@@ -54,7 +56,7 @@ pub(crate) fn opened(answer: Answer, end: usize) -> Opened
 
 // The packet's own row.
 pub(crate) fn store_packet(rows: &mut [u32], at: usize, tag: u32, id: u32)
-    ensures { λ _. ⌜ now (rows .exit) ≡ storeRow (now (rows .entry)) at (row 1 tag id 0) ⌝ }
+    ensures { λ _. ⌜ now (rows .exit) ≡ storeRow (now (rows .entry)) at (packetRow tag id) ⌝ }
 {
     let row = Row {
         kind: kind::PACKET,

@@ -2,8 +2,8 @@
 -- Assumes nothing.
 use Prim.Native.Nat.{ℕ, _-_, _≤_, min}
 use native.Mathlib.Omega.{arith}
-use mathlib.Core.Path.{_≡_, refl, ap, _∙_}
-use mathlib.Core.List.{List, [], _∷_, _++_}
+use mathlib.Core.Path.{_≡_, ap, _∙_}
+use mathlib.Core.List.{List, _∷_, _++_}
 use lib.ListN.{length, take, drop}
 use borrow.Rule.Slice.PartMut.{putMid}
 use Rattle.event.specs.declared.Answer.{Answer}
@@ -14,21 +14,18 @@ use Rattle.event.specs.declared.Row.{Row}
 use Rattle.event.specs.declared.StampOrder.{StampOrder}
 use Rattle.event.specs.Parser.{Result, ok, then, give, ended, several, each}
 use Rattle.event.specs.Words.{storeWord}
-use Rattle.event.specs.Scanning.{storeWords, ScannedBy, writingAll, Writes}
-use Rattle.event.proofs.Leads.{then-then, scanned-refuse}
+use Rattle.event.specs.Scanning.{storeWords, ScannedBy, writingAll, writingPart, BegunBy, Writes}
+use Rattle.event.proofs.Leads.{leads-part, then-then, scanned-refuse}
 use Rattle.event.proofs.WordStores.{part-written}
 use Rattle.event.proofs.Ends.{placed}
-use Rattle.event.proofs.WritingTurns.{Wrote, wrote, unwritten, writes-part, all-refused, all-done}
-use Rattle.s800_layout.specs.Event.{Packet, runOf, Stamp, Number, Event, eventTag, stampTag, numberTag}
-use Rattle.s800_layout.specs.Layout.{framed, stampWords, numberWords, packetWords, runWords, packetsWords, version, words}
+use Rattle.event.proofs.WritingTurns.{Wrote, wrote, unwritten, all-refused, all-done}
+use Rattle.s800_layout.specs.Event.{runOf, Stamp, Event, eventTag, stampTag, numberTag}
+use Rattle.s800_layout.specs.Layout.{framed, stampWords, numberWords, packetWords, packetsWords, version, words}
 use Rattle.s800_layout.specs.Writing.{packet, stampPacket, numberPacket, eventRowsUpTo}
+use Rattle.s800_layout.proofs.Event.{run-words}
 use Rattle.s800_layout.proofs.Rows.{codes-stamp, codes-number}
 use Rattle.s800_writer.specs.Packets.{closed}
 use Rattle.s800_writer.proofs.Closing.{closed-writes}
-
-run-words : (qs : List Packet) → runWords (runOf qs) ≡ each packetWords qs
-run-words [] = refl
-run-words (q ∷ qs) = ap (packetWords q ++_) (run-words qs)
 
 module _ (o : StampOrder) (rs : List Row) where
   abbrev eventAt : Result Row Event
@@ -69,12 +66,8 @@ module _ (o : StampOrder) (rs : List Row) where
           }
 
   -- the event number too
-  pub record Begun (b b₃ : List ℕ) : Type 0 where
-    pub stamp : Stamp
-    pub number : Number
-    pub parsed : eventAt ≡ then (λ qs. give (record { stamp = stamp; number = number; run = runOf qs })) (several packet ended 4 (drop 4 rs))
-    pub four : 4 ≤ length rs
-    pub stored : b₃ ≡ storeWords 16 b 2 (version ∷ (framed stampTag (stampWords stamp) ++ framed numberTag (numberWords number)))
+  abbrev pub Begun : (b b₃ : List ℕ) → Type 0
+  Begun b b₃ = BegunBy (writingPart 16) (each packetWords) (several packet ended) (λ e. version ∷ packetsWords e) eventAt rs 2 b b₃ 4 14
 
   pub number-laid : {b b₂ part part′ after : List ℕ} {p : Part} {n m : ℕ} → Stamped b b₂ → NumberIn part p part′ → p ≡ Refused n m → Laid b (answer.Refused n m) after
   number-laid {b} {after = after} t w e = scanned-refuse words 0 b after (rw (t .parsed, unwritten 16 (λ k. framed numberTag (numberWords k)) (numberPacket 2 (drop 2 rs)) (rw e at (w .scanned))))
@@ -87,22 +80,22 @@ module _ (o : StampOrder) (rs : List Row) where
       go v =
           let k = placed codes-number rs 2 (t .two) (v .parsed) in
           let m : n ≡ 4 = k .1 in
+          let first : List ℕ = version ∷ (framed stampTag (stampWords (t .stamp)) ++ framed numberTag (numberWords (v .value))) in
+          let parsed : eventAt ≡ then (λ qs. give (record { stamp = t .stamp; number = v .value; run = runOf qs })) (several packet ended 4 (drop 4 rs)) =
+          rw (t .parsed, v .parsed, k .0, m) (then-then (several packet ended 4 (drop 4 rs)) runOf (λ r. record { stamp = t .stamp; number = v .value; run = r })) in
+          let stored : b₃ ≡ storeWords 16 b 2 first = part-written 16 (framed numberTag (numberWords (v .value))) b₂ 9 s lent (v .stored) back ∙ rw (t .stored) in
           record {
-            stamp = t .stamp;
-            number = v .value;
-            parsed = rw (t .parsed, v .parsed, k .0, m) (then-then (several packet ended 4 (drop 4 rs)) runOf (λ r. record { stamp = t .stamp; number = v .value; run = r }));
-            four = omega (arith, k .2);
-            stored = part-written 16 (framed numberTag (numberWords (v .value))) b₂ 9 s lent (v .stored) back ∙ rw (t .stored);
+            inside = omega (arith, k .2);
+            few = omega arith;
+            leads = rw (parsed, stored) (leads-part first (each packetWords) (several packet ended 4 (drop 4 rs)) (λ qs. record { stamp = t .stamp; number = v .value; run = runOf qs })
+                (λ e. version ∷ packetsWords e) 2 b
+                (λ qs. ap (λ (l : List ℕ). version ∷ (framed stampTag (stampWords (t .stamp)) ++ (framed numberTag (numberWords (v .value)) ++ l))) (run-words qs)));
           }
 
   -- the packets, and the event's length
   module _ {b b₃ b₄ b₅ : List ℕ} {p p′ : Part} (h : Begun b b₃) (w : Writes 16 (each packetWords) (several packet ended 4 (drop 4 rs)) rs 14 b₃ p b₄) (d : p′ ≡ p) (c : b₅ ≡ closed 0 eventTag p b₄) where
     whole : Writes 16 words eventAt rs 0 b p′ b₅
-    whole = closed-writes (λ e. version ∷ packetsWords e) 0 eventTag eventAt
-        (rw (h .parsed) (writes-part 16 (each packetWords) (version ∷ (framed stampTag (stampWords (h .stamp)) ++ framed numberTag (numberWords (h .number)))) (several packet ended 4 (drop 4 rs))
-        (λ qs. record { stamp = h .stamp; number = h .number; run = runOf qs }) (λ e. version ∷ packetsWords e)
-        (λ qs. ap (λ (l : List ℕ). version ∷ (framed stampTag (stampWords (h .stamp)) ++ (framed numberTag (numberWords (h .number)) ++ l))) (run-words qs)) refl (h .stored) w))
-        d c
+    whole = closed-writes (λ e. version ∷ packetsWords e) 0 eventTag eventAt (record { scanned = h .leads .leads p b₄ (w .scanned); within = w .within }) d c
 
     pub event-refused : {n m : ℕ} {after : List ℕ} → p′ ≡ Refused n m → Laid b (answer.Refused n m) after
     event-refused = all-refused 16 words (whole .scanned)

@@ -2,35 +2,29 @@
 -- Assumes nothing.
 use Prim.Native.Nat.{ℕ, _+_, _*_, _≤_}
 use native.Mathlib.Omega.{arith}
-use mathlib.Core.Path.{_≡_, refl, sym, _∙_}
+use mathlib.Core.Path.{_≡_, sym, _∙_}
 use mathlib.Core.List.{List, [], _∷_, map}
 use lib.ListN.{length, length-append, length-map}
 use Rattle.event.specs.declared.Row.{Row}
-use Rattle.event.specs.Parser.{each}
 use Rattle.event.specs.Rows.{row}
-use Rattle.s800_layout.specs.Event.{Pair, Sample, energies, hits, Form, trigger, timeOfFlight, scintillator, ionChamber, crdc, hodoscope, objectPin, vmeAdc, opaque, Content, Packet, samplesTag, anodeTag, triggerTime, flightTime, energy16, adcEnergy}
-use Rattle.s800_layout.specs.Layout.{framed, datumWord, datumRow, hodoscopeBase, adcBase, pairWords, pairRows, sampleWords, samplesWords, sampleRow, anodeWords, anodeRow, contentWords, contentRows, packetWords, packetRows}
+use Rattle.s800_layout.specs.Event.{energies, hits, Form, trigger, timeOfFlight, scintillator, ionChamber, crdc, hodoscope, objectPin, vmeAdc, opaque, Content, Packet, samplesTag, anodeTag, triggerTime, flightTime, energy16, adcEnergy}
+use Rattle.s800_layout.specs.Layout.{framed, datumWord, datumRow, hodoscopeBase, adcBase, samplesWords, sampleRow, anodeWords, anodeRow, contentWords, contentRows, packetWords, packetRows}
+use Rattle.s800_layout.proofs.RowCount.{pair-count, sample-count}
 
 as-many : {A : Type 0} (f : A → ℕ) (g : A → Row) (xs : List A) → length (map f xs) ≡ length (map g xs)
 as-many f g xs = length-map xs f ∙ sym (length-map xs g)
-
-in-pairs : (xs : List Pair) → length (each pairWords xs) ≡ length (each pairRows xs)
-in-pairs [] = refl
-in-pairs (x ∷ xs) = omega (arith, in-pairs xs)
-
-two-each : (xs : List Sample) → length (each sampleWords xs) ≡ length (map sampleRow xs) + length (map sampleRow xs)
-two-each [] = refl
-two-each (x ∷ xs) = omega (arith, two-each xs)
 
 -- the words after the length and the tag, and the rows after the packet's own
 content-few : (f : Form) (c : Content f) → length (contentWords f c) ≤ 2 + 4 * length (contentRows f c)
 content-few trigger c = omega (arith, as-many (datumWord triggerTime) (datumRow 5 0) (c .times))
 content-few timeOfFlight xs = omega (arith, as-many (datumWord flightTime) (datumRow 5 0) xs)
-content-few scintillator xs = omega (arith, in-pairs xs)
+content-few scintillator xs = omega (arith, pair-count xs)
 content-few ionChamber xs = omega (arith, as-many (datumWord energy16) (datumRow 6 0) xs)
 content-few crdc c =
     let s = c .samples in
-    omega (arith, two-each (s .samples), length-append (framed samplesTag (samplesWords s)) (framed anodeTag (anodeWords (c .anode))), length-append (map sampleRow (s .samples)) (anodeRow (c .anode) ∷ []))
+    let words = length-append (framed samplesTag (samplesWords s)) (framed anodeTag (anodeWords (c .anode))) in
+    let rows = length-append (map sampleRow (s .samples)) (anodeRow (c .anode) ∷ []) in
+    omega (arith, sample-count (s .samples), length-map (s .samples) sampleRow)
 content-few hodoscope (energies id xs) = omega (arith, as-many (datumWord energy16) (datumRow 6 (hodoscopeBase id)) xs)
 content-few hodoscope (hits h) = omega arith
 content-few objectPin d = omega arith

@@ -10,7 +10,7 @@ use lib.Dec.{T, eqb, eqb→eq}
 use lib.ListN.{getD}
 use borrow.Author.Tests.{eq-eqb, ne-eqb, eqb-true, eqb-false}
 use Rattle.event.proofs.Elements.{both}
-use Rattle.s800_layout.specs.Event.{Opaque, focalPlaneTime, intermediateCrdc, targetPin, intermediateTrack, intermediatePpac, objectScintillator, Form, trigger, timeOfFlight, scintillator, ionChamber, crdc, hodoscope, objectPin, vmeAdc, opaque, formOf, tag, largestId}
+use Rattle.s800_layout.specs.Event.{focalPlaneTime, intermediateCrdc, targetPin, intermediateTrack, intermediatePpac, objectScintillator, Form, trigger, timeOfFlight, scintillator, ionChamber, crdc, hodoscope, objectPin, vmeAdc, opaque, formOf, tag, largestId}
 use Rattle.s800_layout.proofs.Lengths.{form-back}
 use Rattle.s800_writer.specs.Packets.{idCount}
 

@@ -19,7 +19,7 @@ use Rattle.event.proofs.Elements.{each-map, each-alone}
 use Rattle.event.proofs.RowJudged.{row-taken, row-refused}
 use Rattle.event.proofs.WritingTurns.{writes-part, writes-as, writes-refused, writes-done}
 use Rattle.s800_format.specs.declared.Format.{Format}
-use Rattle.s800_format.specs.Format.{formatOf, timesFormat, energiesFormat, adcFormat}
+use Rattle.s800_format.specs.Format.{formatOf, timesOf, energiesOf}
 use Rattle.s800_format.proofs.Formats.{trigger-format, flight-format, energies-format, adc-format}
 use Rattle.s800_layout.specs.Event.{Datum, energies, hits, Form, trigger, timeOfFlight, ionChamber, hodoscope, objectPin, vmeAdc, Opaque, opaque, Content, energiesTag, tag, hitsId, patternBound, ChannelFormat, triggerTime, flightTime, energy16, adcEnergy}
 use Rattle.s800_layout.specs.Layout.{framed, channelWord, datumWord, registerWords, contentWords, packetWords, datumRow, hodoscopeBase, adcBase, registerRow, datumChecks, registerChecks}
@@ -54,21 +54,23 @@ module _ (m : Format) (f : ChannelFormat) (e : formatOf m ≡ f) where
 
 module _ (rs : List Row) (i : ℕ) where
   -- 0x5802
-  pub flight-content : {m : Format} {b after : List ℕ} {r : Part} → m ≡ timesFormat 0x0f0f → Writes 16 (each (datumWords m)) (channelRows (m .kind) (m .base) (formatOf m) (i + 1) (drop (i + 1) rs)) rs 2 b r after
+  pub flight-content : {m : Format} {b after : List ℕ} {r : Part} → m ≡ timesOf flightTime
+      → Writes 16 (each (datumWords m)) (channelRows (m .kind) (m .base) (formatOf m) (i + 1) (drop (i + 1) rs)) rs 2 b r after
       → Writes 16 (contentWords timeOfFlight) (contentAt timeOfFlight 0 rs i) rs 2 b r after
-  flight-content q s = channels-as (timesFormat 0x0f0f) flightTime flight-format rs (i + 1) (rw q at s)
+  flight-content q s = channels-as (timesOf flightTime) flightTime flight-format rs (i + 1) (rw q at s)
 
   -- 0x5820, with its inner packet closed
-  pub chamber-content : {m : Format} {b b′ after : List ℕ} {r r′ : Part} → m ≡ energiesFormat 0 → Writes 16 (each (datumWords m)) (channelRows (m .kind) (m .base) (formatOf m) (i + 1) (drop (i + 1) rs)) rs 4 b r b′
+  pub chamber-content : {m : Format} {b b′ after : List ℕ} {r r′ : Part} → m ≡ energiesOf 0 energy16
+      → Writes 16 (each (datumWords m)) (channelRows (m .kind) (m .base) (formatOf m) (i + 1) (drop (i + 1) rs)) rs 4 b r b′
       → r′ ≡ r → after ≡ closed 2 energiesTag r b′ → Writes 16 (contentWords ionChamber) (contentAt ionChamber 0 rs i) rs 2 b r′ after
-  chamber-content q s = closed-writes (map (datumWord energy16)) 2 energiesTag (contentAt ionChamber 0 rs i) (channels-as (energiesFormat 0) energy16 (energies-format 0) rs (i + 1) (rw q at s))
+  chamber-content q s = closed-writes (map (datumWord energy16)) 2 energiesTag (contentAt ionChamber 0 rs i) (channels-as (energiesOf 0 energy16) energy16 (energies-format 0) rs (i + 1) (rw q at s))
 
   -- 0x58b0 with energies: the id before them
-  pub energies-content : (id : ℕ) → (id ≡ hitsId → ⊥) → {m : Format} {b b′ after : List ℕ} {r : Part} → m ≡ energiesFormat (hodoscopeBase id) → b′ ≡ storeWord 16 b 2 id
+  pub energies-content : (id : ℕ) → (id ≡ hitsId → ⊥) → {m : Format} {b b′ after : List ℕ} {r : Part} → m ≡ energiesOf (hodoscopeBase id) energy16 → b′ ≡ storeWord 16 b 2 id
       → Writes 16 (each (datumWords m)) (channelRows (m .kind) (m .base) (formatOf m) (i + 1) (drop (i + 1) rs)) rs 3 b′ r after
       → Writes 16 (contentWords hodoscope) (contentAt hodoscope id rs i) rs 2 b r after
   energies-content id z q w s = rw (ne-eqb id hitsId z) (writes-part 16 (map (datumWord energy16)) (id ∷ []) (channelRows 6 (hodoscopeBase id) energy16 (i + 1) (drop (i + 1) rs)) (energies id) (contentWords hodoscope)
-      (λ xs. refl) refl w (channels-as (energiesFormat (hodoscopeBase id)) energy16 (energies-format (hodoscopeBase id)) rs (i + 1) (rw q at s)))
+      (λ xs. refl) refl w (channels-as (energiesOf (hodoscopeBase id) energy16) energy16 (energies-format (hodoscopeBase id)) rs (i + 1) (rw q at s)))
 
   -- 0x58b0 with the hits
   pub hits-content : {id : ℕ} {b b′ after : List ℕ} {r : Part} → id ≡ hitsId → b′ ≡ storeWord 16 b 2 id → Writes 16 registerWords (registers (i + 1) (drop (i + 1) rs)) rs 3 b′ r after
@@ -76,11 +78,11 @@ module _ (rs : List Row) (i : ℕ) where
   hits-content q w s = rw q (writes-part 16 registerWords (hitsId ∷ []) (registers (i + 1) (drop (i + 1) rs)) hits (contentWords hodoscope) (λ h. refl) refl (rw q at w) s)
 
   -- 0x58c0: the id before the energies
-  pub adc-content : (id : ℕ) {m : Format} {b b′ after : List ℕ} {r : Part} → m ≡ adcFormat (adcBase id) → b′ ≡ storeWord 16 b 2 id
+  pub adc-content : (id : ℕ) {m : Format} {b b′ after : List ℕ} {r : Part} → m ≡ energiesOf (adcBase id) adcEnergy → b′ ≡ storeWord 16 b 2 id
       → Writes 16 (each (datumWords m)) (channelRows (m .kind) (m .base) (formatOf m) (i + 1) (drop (i + 1) rs)) rs 3 b′ r after
       → Writes 16 (contentWords vmeAdc) (contentAt vmeAdc id rs i) rs 2 b r after
   adc-content id q w s = writes-part 16 (map (datumWord adcEnergy)) (id ∷ []) (channelRows 6 (adcBase id) adcEnergy (i + 1) (drop (i + 1) rs)) (λ xs. record { id = id; energies = xs }) (contentWords vmeAdc)
-      (λ xs. refl) refl w (channels-as (adcFormat (adcBase id)) adcEnergy (adc-format (adcBase id)) rs (i + 1) (rw q at s))
+      (λ xs. refl) refl w (channels-as (energiesOf (adcBase id) adcEnergy) adcEnergy (adc-format (adcBase id)) rs (i + 1) (rw q at s))
 
   -- opaque words
   pub opaque-content : (k : Opaque) {b after : List ℕ} {r : Part} → Writes 16 (each wordAlone) (several (datumBelow 11 0 (2 ^ 16)) (atPacket) (i + 1) (drop (i + 1) rs)) rs 2 b r after
@@ -98,28 +100,31 @@ module _ (rs : List Row) (i : ℕ) where
     pub pattern-inside : 0 ≡ limitsFault 4 0 0 31 r → i + 1 < length rs
     pattern-inside f = one-taken 4 0 0 31 (λ r. r .datum) (row 4 0 0) (belowChecks 22 patternBound) (plain-fault 4 31) refl (λ a. (tt, tt)) rs (i + 1) e f .0
 
-    pub trigger-content : {m : Format} {b b′ after : List ℕ} {p : Part} → 0 ≡ limitsFault 4 0 0 31 r → m ≡ timesFormat 0xf0ff → b′ ≡ storeWord 16 b 2 (r .datum)
+    pub trigger-content : {m : Format} {b b′ after : List ℕ} {p : Part} → 0 ≡ limitsFault 4 0 0 31 r → m ≡ timesOf triggerTime → b′ ≡ storeWord 16 b 2 (r .datum)
         → Writes 16 (each (datumWords m)) (channelRows (m .kind) (m .base) (formatOf m) (i + 2) (drop (i + 2) rs)) rs 3 b′ p after
         → Writes 16 (contentWords trigger) (contentAt trigger 0 rs i) rs 2 b p after
     trigger-content f q w s =
         let t = one-taken 4 0 0 31 (λ r. r .datum) (row 4 0 0) (belowChecks 22 patternBound) (plain-fault 4 31) refl (λ a. (tt, tt)) rs (i + 1) e f .1 in
         rw (t, two) (writes-part 16 (map (datumWord triggerTime)) (r .datum ∷ []) (channelRows 5 0 triggerTime (i + 2) (drop (i + 2) rs)) (λ xs. record { pattern = r .datum; times = xs }) (contentWords trigger)
-        (λ xs. refl) refl w (channels-as (timesFormat 0xf0ff) triggerTime trigger-format rs (i + 2) (rw q at s)))
+        (λ xs. refl) refl w (channels-as (timesOf triggerTime) triggerTime trigger-format rs (i + 2) (rw q at s)))
 
     -- 0x58a0: one energy
-    energy-fault : faultIn (rowTests (ofKind 6) (datumOf 0) (datumRow 6 0) (datumChecks 22 22 energy16 []) r) ≡ datumFault (energiesFormat 0) 0 r
-    energy-fault = subst (λ (f : ChannelFormat). faultIn (rowTests (ofKind 6) (datumOf 0) (datumRow 6 0) (datumChecks 22 22 f []) r) ≡ datumFault (energiesFormat 0) 0 r) (energies-format 0) (datum-fault (energiesFormat 0) blocked-none r)
+    energy-fault : faultIn (rowTests (ofKind 6) (datumOf 0) (datumRow 6 0) (datumChecks 22 22 energy16 []) r) ≡ datumFault (energiesOf 0 energy16) 0 r
+    energy-fault =
+        let m = energiesOf 0 energy16 in
+        subst (λ (f : ChannelFormat). faultIn (rowTests (ofKind 6) (datumOf 0) (datumRow 6 0) (datumChecks 22 22 f []) r) ≡ datumFault m 0 r)
+        (energies-format 0) (datum-fault m blocked-none r)
 
-    pub pin-refused : {m : Format} {n : ℕ} → m ≡ energiesFormat 0 → n ≡ datumFault m 0 r → (n ≡ 0 → ⊥) → contentAt objectPin 0 rs i ≡ refuse n (i + 1)
+    pub pin-refused : {m : Format} {n : ℕ} → m ≡ energiesOf 0 energy16 → n ≡ datumFault m 0 r → (n ≡ 0 → ⊥) → contentAt objectPin 0 rs i ≡ refuse n (i + 1)
     pin-refused q f z = row-refused (ofKind 6) (datumOf 0) (datumRow 6 0) (datumChecks 22 22 energy16 []) refl (λ a. (tt, (tt, (tt, tt)))) rs (i + 1) e ((rw q at f) ∙ sym energy-fault) z
 
-    pin-taken : {m : Format} → m ≡ energiesFormat 0 → 0 ≡ datumFault m 0 r → (i + 1 < length rs) × (contentAt objectPin 0 rs i ≡ ok (datumOf 0 r) (i + 1 + 1) (drop (i + 1 + 1) rs))
+    pin-taken : {m : Format} → m ≡ energiesOf 0 energy16 → 0 ≡ datumFault m 0 r → (i + 1 < length rs) × (contentAt objectPin 0 rs i ≡ ok (datumOf 0 r) (i + 1 + 1) (drop (i + 1 + 1) rs))
     pin-taken q f = row-taken (ofKind 6) (datumOf 0) (datumRow 6 0) (datumChecks 22 22 energy16 []) refl (λ a. (tt, (tt, (tt, tt)))) rs (i + 1) e ((rw q at f) ∙ sym energy-fault)
 
-    pub pin-inside : {m : Format} → m ≡ energiesFormat 0 → 0 ≡ datumFault m 0 r → i + 1 < length rs
+    pub pin-inside : {m : Format} → m ≡ energiesOf 0 energy16 → 0 ≡ datumFault m 0 r → i + 1 < length rs
     pin-inside q f = pin-taken q f .0
 
-    pub pin-content : {m : Format} {w : ℕ} {b b′ : List ℕ} → (q : m ≡ energiesFormat 0) → 0 ≡ datumFault m 0 r → w ≡ channelWord (formatOf m) (r .channel) (r .datum) → b′ ≡ storeWord 16 b 2 w
+    pub pin-content : {m : Format} {w : ℕ} {b b′ : List ℕ} → (q : m ≡ energiesOf 0 energy16) → 0 ≡ datumFault m 0 r → w ≡ channelWord (formatOf m) (r .channel) (r .datum) → b′ ≡ storeWord 16 b 2 w
         → Writes 16 (contentWords objectPin) (contentAt objectPin 0 rs i) rs 2 b (Done (i + 2) 3) b′
     pin-content {w = w} q f v s =
         let t = pin-taken q f in

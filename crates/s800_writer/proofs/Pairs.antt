@@ -20,8 +20,7 @@ use Rattle.event.proofs.ChannelLaws.{blocked-more}
 use Rattle.event.proofs.RowJudged.{row-taken, row-refused}
 use Rattle.event.proofs.Turns.{upToStop}
 use Rattle.event.proofs.WritingTurns.{WritesOn, run-refused, run-taken}
-use Rattle.s800_format.specs.Format.{pairFormat}
-use Rattle.s800_format.proofs.Formats.{pair-format}
+use Rattle.s800_format.proofs.Formats.{pairFormat, pair-format}
 use Rattle.s800_layout.specs.Event.{ChannelFormat, pairEnergy}
 use Rattle.s800_layout.specs.Layout.{pairWords, datumRow, datumChecks, pairChannels}
 use Rattle.s800_layout.specs.Writing.{atPacket, datumOf, datum, pair}

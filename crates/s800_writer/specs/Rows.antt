@@ -7,7 +7,7 @@ use lib.Dec.{eqb, ltb, leb}
 use lib.ListN.{length}
 use Rattle.event.specs.declared.Row.{Row}
 use Rattle.event.specs.Channels.{present}
-use Rattle.s800_layout.specs.Event.{Datum, Pair}
+use Rattle.s800_layout.specs.Event.{Datum, Pair, pairEnergy}
 use Rattle.s800_layout.specs.Layout.{datumWord}
 use Rattle.s800_layout.specs.Writing.{datumOf}
 use Rattle.s800_format.specs.declared.Format.{Format}
@@ -30,7 +30,7 @@ datumFault m set r =
 
 -- the time of a pair, of the energy's channel: 21 its kind; 22 its unit, its channel, its number; 0 for none
 unfoldable pub timeFault : (channel : ℕ) → Row → ℕ
-timeFault channel r = cond (eqb 5 (r .kind)) (cond ((eqb (r .unit) 0 && eqb (r .channel) channel) && ltb (r .datum) 4096) 0 22) 21
+timeFault channel r = cond (eqb 5 (r .kind)) (cond ((eqb (r .unit) 0 && eqb (r .channel) channel) && ltb (r .datum) (2 ^ pairEnergy .bits)) 0 22) 21
 
 -- the words of one datum
 abbrev pub datumWords : Format → Datum → List ℕ

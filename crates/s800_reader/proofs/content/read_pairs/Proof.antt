@@ -5,7 +5,7 @@ use native.Mathlib.Omega.{arith}
 use borrow.Author.Needs.{needs}
 use Rattle.event.proofs.ChannelLaws.{blocked-none}
 use Rattle.event.proofs.Turns.{begin, finish}
-use Rattle.s800_format.specs.Format.{pairFormat}
+use Rattle.s800_format.proofs.Formats.{pairFormat}
 use Rattle.s800_reader.proofs.Runs.{Pairs, pair-stop, pair-stop-2, pair-step}
 use Rattle.s800_reader.proofs.content.read_pairs.Statement.{statement}
 use Rattle.s800_reader.proofs.content.read_pairs.Tie as tie

@@ -6,7 +6,7 @@ use lib.ListN.{length}
 use Rattle.event.specs.Writing.{rowsIn}
 use Rattle.event.proofs.RowsIn.{rows-count}
 use Rattle.s800_layout.specs.Writing.{atPacket}
-use Rattle.s800_format.specs.Format.{pairFormat}
+use Rattle.s800_format.proofs.Formats.{pairFormat}
 use Rattle.event.proofs.ChannelLaws.{blocked-none}
 use Rattle.event.proofs.Turns.{begin}
 use Rattle.event.proofs.WritingTurns.{run-done}
