@@ -29,15 +29,16 @@ use Rattle.frs_layout.proofs.Writing as WritingF
 use Rattle.frs_layout.proofs.Width as WidthF
 use Rattle.frs_layout.proofs.RowCount as RowCountF
 use Rattle.dialects.specs.Demands.{ReadingExact, ReadingInRoomExact, RowsWithinWords, WritingExact, WritingInRoomExact, WrittenBack, ReadBack, AcceptableExact, RowsOfLayout, SameRuns}
-use Rattle.dialects.specs.Dialects.{Dialect, S, F, Event, Valid, words, rows, width, reading, AcceptableIn, rowsOf}
+use Rattle.dialects.specs.declared.Dialect.{Dialect}
+use Rattle.dialects.specs.declared.Dialect.the-variants.{S, F}
+use Rattle.dialects.specs.Dialects.{Event, Valid, words, rows, width, reading, AcceptableIn, rowsOf}
 
 pub reading-iff : ReadingExact
 reading-iff S o = ReadingS.reading-iff o
 reading-iff F o = ReadingF.reading-iff
 
 pub reading-in-room : ReadingInRoomExact
-reading-in-room S room o = ReadingS.reading-in-room room o
-reading-in-room F room o = ReadingF.reading-in-room room
+reading-in-room d room o ws rs = in-room 12 room (reading-iff d o ws rs)
 
 no-more-rows : (d : Dialect) (o : StampOrder) (e : Event d) → length (rows d o e) ≤ length (words d e)
 no-more-rows S o = RowCountS.no-more-rows o
@@ -51,8 +52,7 @@ writing-iff S o = WritingS.writing-iff o
 writing-iff F o = WritingF.writing-iff
 
 pub writing-in-room : WritingInRoomExact
-writing-in-room S room o xs ws = in-room 24 room (writing-iff S o xs ws)
-writing-in-room F room o xs ws = in-room 24 room (writing-iff F o xs ws)
+writing-in-room d room o xs ws = in-room 24 room (writing-iff d o xs ws)
 
 pub written-back : WrittenBack
 written-back d o ws rs e = writing-iff d o (flat rs) ws .1 (rs, refl, reading-iff d o ws rs .0 e)

@@ -9,7 +9,9 @@ use Rattle.event.specs.declared.StampOrder.{StampOrder}
 use Rattle.event.specs.declared.StampOrder.the-variants.{Crossed, Rising}
 use Rattle.event.specs.Outcome.{Outcome, done, refused}
 use Rattle.event.specs.Rows.{row}
-use Rattle.dialects.specs.Dialects.{Dialect, S, F, reading}
+use Rattle.dialects.specs.declared.Dialect.{Dialect}
+use Rattle.dialects.specs.declared.Dialect.the-variants.{S, F}
+use Rattle.dialects.specs.Dialects.{reading}
 
 -- document 01 calls its first line M: here with its word 0, its word 3, and words added
 abbrev m : (word0 word3 : ℕ) → List ℕ → List ℕ

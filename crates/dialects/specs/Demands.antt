@@ -11,7 +11,8 @@ use Rattle.event.specs.Parser.{All}
 use Rattle.event.specs.Outcome.{done}
 use Rattle.event.specs.Rows.{flat}
 use Rattle.event.specs.Demands.{join}
-use Rattle.dialects.specs.Dialects.{Dialect, rows, reading, readingInto, writing, writingInto, SomeEventIn, AcceptableIn, rowsOf}
+use Rattle.dialects.specs.declared.Dialect.{Dialect}
+use Rattle.dialects.specs.Dialects.{rows, reading, readingInto, writing, writingInto, SomeEventIn, AcceptableIn, rowsOf}
 
 -- Demand 2. A reading accepts exactly the words of valid events, and gives the event's rows.
 abbrev pub ReadingExact : Type 0

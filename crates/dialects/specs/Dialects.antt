@@ -1,22 +1,23 @@
--- The dialects side by side: a new one is one clause more in each definition. (The stamp order is of dialect S; F's stamp has one order.)
+-- The dialects side by side: a new one is one clause more in each definition by cases; the others follow from these. (The stamp order is of dialect S; F's stamp has one order.)
 -- Assumes nothing.
 use Prim.Native.Nat.{ℕ}
+use mathlib.Core.Bool.{cond}
 use mathlib.Core.List.{List}
+use lib.Dec.{eqb}
 use Rattle.event.specs.declared.Row.{Row}
 use Rattle.event.specs.declared.StampOrder.{StampOrder}
-use Rattle.event.specs.Outcome.{Outcome, given}
+use Rattle.event.specs.Outcome.{Outcome, given, overlaid, inRoom, inWordRoom}
 use Rattle.event.specs.Demands.{SomeEvent, Acceptable}
+use Rattle.dialects.specs.declared.Dialect.{Dialect}
+use Rattle.dialects.specs.declared.Dialect.the-variants.{S, F}
 use Rattle.s800_layout.specs.Event.{Event as EventS}
 use Rattle.s800_layout.specs.Layout.{Valid as ValidS, words as wordsS, rows as rowsS}
-use Rattle.s800_layout.specs.Reading.{reading as readingS, readingInto as readingIntoS}
-use Rattle.s800_layout.specs.Writing.{writing as writingS, writingInto as writingIntoS}
+use Rattle.s800_layout.specs.Reading.{reading as readingS}
+use Rattle.s800_layout.specs.Writing.{writing as writingS}
 use Rattle.frs_layout.specs.Event.{Event as EventF}
 use Rattle.frs_layout.specs.Layout.{Valid as ValidF, words as wordsF, rows as rowsF}
-use Rattle.frs_layout.specs.Reading.{reading as readingF, readingInto as readingIntoF}
-use Rattle.frs_layout.specs.Writing.{writing as writingF, writingInto as writingIntoF}
-
-pub data Dialect : Type 0 where
-  S F : Dialect
+use Rattle.frs_layout.specs.Reading.{reading as readingF}
+use Rattle.frs_layout.specs.Writing.{writing as writingF}
 
 -- the events of a dialect, their rules, their words and their rows
 abbrev pub Event : Dialect → Type 0
@@ -40,6 +41,21 @@ abbrev pub width : Dialect → ℕ
 width S = 16
 width F = 32
 
+-- the dialect of a number, for a call that can pass no enum
+abbrev pub dialectOf : ℕ → Dialect
+dialectOf n = cond (eqb n 0) S F
+
+-- of two buffers, words of 16 bits and longwords of 32, the one that holds the dialect's words
+abbrev pub ofWidth : {A : Type 0} → Dialect → A → A → A
+ofWidth d short long = cond (eqb (width d) 16) short long
+
+-- both buffers after words of the dialect were given: those of the other width are as they were
+abbrev pub over16 : Dialect → List ℕ → List ℕ → List ℕ
+over16 d ws buffer = ofWidth d (overlaid ws buffer) buffer
+
+abbrev pub over32 : Dialect → List ℕ → List ℕ → List ℕ
+over32 d ws buffer = ofWidth d buffer (overlaid ws buffer)
+
 -- from words to rows
 abbrev pub reading : Dialect → StampOrder → List ℕ → Outcome Row
 reading S o = readingS o
@@ -47,8 +63,7 @@ reading F o = readingF
 
 -- into room for so many rows: 12 last
 abbrev pub readingInto : Dialect → (room : ℕ) → StampOrder → List ℕ → Outcome Row
-readingInto S room o = readingIntoS room o
-readingInto F room o = readingIntoF room
+readingInto d room o ws = inRoom room (reading d o ws)
 
 -- from the elements of a buffer of rows to words: 20 to 23
 abbrev pub writing : Dialect → StampOrder → List ℕ → Outcome ℕ
@@ -57,8 +72,7 @@ writing F o = writingF
 
 -- into room for so many words: 24 last
 abbrev pub writingInto : Dialect → (room : ℕ) → StampOrder → List ℕ → Outcome ℕ
-writingInto S room o = writingIntoS room o
-writingInto F room o = writingIntoF room
+writingInto d room o xs = inWordRoom room (writing d o xs)
 
 -- Demand 2: some valid event has these words and these rows.
 abbrev pub SomeEventIn : Dialect → StampOrder → List ℕ → List Row → Type 0

@@ -1,1 +1,29 @@
-// The dialects side by side: demands 2 and 3, and the spoken cases of document 01. (The crate is its specs/ and proofs/.)
+// The dialects side by side: which there are, and how wide their words are. Demands 2 and 3 and the spoken cases of document 01 are its specs/ and proofs/.
+ghost use mathlib.Core.Path.{_≡_};
+ghost use Rattle.dialects.specs.Dialects.{width, dialectOf};
+
+// S, one S800 event of version 5 in 16-bit words; F, one FRS VME event in 32-bit longwords (document 01, 'Two dialects').
+pub enum Dialect {
+    S,
+    F,
+}
+
+// The bits of a word.
+pub fn width(dialect: Dialect) -> usize
+    ensures { λ r. ⌜ r ≡ width dialect ⌝ }
+{
+    match dialect {
+        Dialect::S => 16,
+        Dialect::F => 32,
+    }
+}
+
+// The dialect of a number, for a call that can pass no enum: 0 is S, any other F.
+pub fn dialect_of(number: u32) -> Dialect
+    ensures { λ r. ⌜ r ≡ dialectOf number ⌝ }
+{
+    if number == 0 {
+        return Dialect::S;
+    }
+    Dialect::F
+}
