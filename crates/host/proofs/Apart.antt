@@ -13,14 +13,13 @@ use Rattle.event.specs.declared.StampOrder.{StampOrder}
 use Rattle.event.specs.declared.StampOrder.the-variants.{Crossed, Rising}
 use Rattle.event.specs.Parser.{Result, ok, refuse}
 use Rattle.event.specs.Outcome.{Outcome, done, refused, outcome, answerOf, orderOf}
-use Rattle.dialects.specs.Dialects.{S}
+use Rattle.dialects.specs.declared.Dialect.the-variants.{S}
 use Rattle.dialects.proofs.Demands.{rows-within-words}
 use Rattle.s800_layout.specs.Event.{Event}
 use Rattle.s800_layout.specs.Layout.{rows}
 use Rattle.s800_layout.specs.Reading.{eventParser, reading}
 use Rattle.s800_layout.proofs.Reading.{reading-iff}
 use Rattle.s800_layout.proofs.Refusals.{refusals}
-use Rattle.event.proofs.Impossible.{impossible}
 use Rattle.host.specs.Check.{wordsOf, checking, packed, Apart, TakenApart, OrderIndifferent}
 use Rattle.host.proofs.Checked.{too-many, small-places}
 

@@ -9,7 +9,7 @@ use lib.ListN.{length}
 use Rattle.event.specs.declared.Answer.{Answer}
 use Rattle.event.specs.declared.Answer.the-variants.{Accepted, Refused}
 use Rattle.event.specs.declared.Row.{Row}
-use Rattle.event.specs.Outcome.{Outcome, refused, answerOf, orderOf}
+use Rattle.event.specs.Outcome.{Outcome, refused, answerOf, orderOf, refusalNumber, countOrPlace}
 use Rattle.s800_layout.specs.Reading.{reading}
 
 -- the words of bytes, low byte first (of an odd count, which is refused, the last byte is in no word)
@@ -25,10 +25,9 @@ checking bytes order =
     (refused 31 0)
     (cond (eqb (length bytes % 2) 0) (reading (orderOf order) (wordsOf bytes)) (refused 1 0))
 
--- an answer as one number: the rows, or 2^32 × refusal + place
+-- an answer as one number: the rows, or 2^32 × refusal + place (an answer that accepts has refusal number 0)
 abbrev pub packed : Answer → ℕ
-packed (Accepted n) = n
-packed (Refused n k) = 2 ^ 32 * n + k
+packed a = 2 ^ 32 * refusalNumber a + countOrPlace a
 
 -- what the host gets
 abbrev pub hostAnswer : List ℕ → ℕ → ℕ
@@ -47,11 +46,7 @@ TakenApart = (bytes : List ℕ) (order : ℕ) → Apart (hostAnswer bytes order)
 abbrev pub OrderIndifferent : Type 0
 OrderIndifferent = (bytes : List ℕ) → hostAnswer bytes 0 ≡ hostAnswer bytes 1
 
--- For private functions: a refusal's place has 32 bits; a refusal as one number, and 0 for an answer that is none.
+-- For private functions: a refusal's place has 32 bits.
 abbrev pub In32 : Answer → Type 0
 In32 (Accepted n) = Unit {0}
 In32 (Refused n k) = k < 2 ^ 32
-
-abbrev pub packedRefusal : Answer → ℕ
-packedRefusal (Accepted n) = 0
-packedRefusal (Refused n k) = packed (Refused n k)
