@@ -6,7 +6,8 @@ use mathlib.Core.Path.{_≡_, refl}
 use mathlib.Core.List.{[], _∷_, map}
 use lib.ListN.{replicate}
 use Rattle.event.specs.Outcome.{Outcome, done, refused}
-use Rattle.dialects.specs.Dialects.{Dialect, S, F}
+use Rattle.dialects.specs.declared.Dialect.{Dialect}
+use Rattle.dialects.specs.declared.Dialect.the-variants.{S, F}
 use Rattle.hex_line.specs.Text.{text}
 use Rattle.hex_line.specs.Line.{isDigit, digitOf, allDigits, allGroups, wellFormed, valueOf, firsts, lineInto}
 
@@ -30,8 +31,8 @@ rooms = refl
 
 -- the characters beside the digits, upper case, another letter, other spaces, too few and too many digits, and nothing at all
 refusals : map outcomeOf
-    (case S 9 "S 000/" ∷ case S 9 "S 000:" ∷ case S 9 "S 000`" ∷ case S 9 "S 000g" ∷ case S 9 "S 000A" ∷ case S 9 "s 0001" ∷ case S 9 "F 0001" ∷ case F 9 "S 00000001" ∷ case S 9 "S0001" ∷ case S 9 "S  0001"
-    ∷ case S 9 "S\t0001" ∷ case S 9 "S 0001 " ∷ case S 9 "S 001" ∷ case S 9 "S 00001" ∷ case S 9 "S 0001\r" ∷ case S 9 " 0001" ∷ case S 9 "" ∷ case F 9 "" ∷ [])
+    (case S 9 "S 000/" ∷ case S 9 "S 000:" ∷ case S 9 "S 000`" ∷ case S 9 "S 000g" ∷ case S 9 "S 000A" ∷ case S 9 "s 0001" ∷ case S 9 "F 0001" ∷ case F 9 "S 00000001" ∷ case S 9 "S0001"
+    ∷ case S 9 "S  0001" ∷ case S 9 "S\t0001" ∷ case S 9 "S 0001 " ∷ case S 9 "S 001" ∷ case S 9 "S 00001" ∷ case S 9 "S 0001\r" ∷ case S 9 " 0001" ∷ case S 9 "" ∷ case F 9 "" ∷ [])
     ≡ replicate 18 (refused 30 0)
 unfolding isDigit digitOf allDigits allGroups wellFormed valueOf firsts
 refusals = refl

@@ -14,8 +14,8 @@ use borrow.Author.Tests.{ltb-true, ltb-false, lt-ltb, le-ltb, le-leb, lt-leb, le
 use Rattle.event.specs.Parser.{each, All}
 use Rattle.event.specs.Outcome.{done, refused}
 use Rattle.event.specs.Words.{between}
-use Rattle.dialects.specs.Dialects.{S, F}
-use Rattle.hex_line.specs.Line.{isDigit, digitOf, allDigits, allGroups, wellFormed, valueOf, firsts, wordsOf, wordCount, longestLine}
+use Rattle.dialects.proofs.Widths.{by-width}
+use Rattle.hex_line.specs.Line.{letter, digits, isDigit, digitOf, allDigits, allGroups, wellFormed, valueOf, firsts, wordsOf, wordCount, groupWords, longestLine}
 use Rattle.hex_line.specs.Text.{character, hexOf}
 use Rattle.hex_line.specs.Exact.{LineExact}
 use Rattle.hex_line.proofs.LineLaws.{digit-lt, value-lt}
@@ -206,13 +206,12 @@ module _ (first k : ℕ) (line ws : List ℕ) where
         rw c (t .1),
       )
 
-  exact : (number : ℕ) → (cond (wellFormed first k line) (done (wordsOf k line (wordCount k line))) (refused number 0) ≡ done ws) ↔ Made
-  exact number = (go (wellFormed first k line) refl, λ m. let h = has m in rw (h .0, h .1))
+  exact : (groupWords first k line ≡ done ws) ↔ Made
+  exact = (go (wellFormed first k line) refl, λ m. let h = has m in rw (h .0, h .1))
     where
-      go : (b : Bool) → wellFormed first k line ≡ b → cond b (done (wordsOf k line (wordCount k line))) (refused number 0) ≡ done ws → Made
+      go : (b : Bool) → wellFormed first k line ≡ b → cond b (done (wordsOf k line (wordCount k line))) (refused 30 0) ≡ done ws → Made
       go true f e = made f (cc)
       go false f e = absurd (false≢true (cc))
 
 pub line-exact : LineExact
-line-exact S line ws = exact 83 4 line ws _
-line-exact F line ws = exact 70 8 line ws _
+line-exact d line ws = rw (by-width (λ (w : ℕ). 2 ^ w ≡ 16 ^ (w / 4)) refl refl d) (exact (letter d) (digits d) line ws)

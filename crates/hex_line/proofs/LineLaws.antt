@@ -1,17 +1,22 @@
--- Laws of the definitions of a line, over the number of digits: what each turn of a loop finds. Assumes nothing.
+-- Laws of the definitions of a line, over the letter and the number of digits: what each turn of a loop finds. Assumes nothing.
 use mathlib.Core.Path.{_≡_, refl, sym, _∙_}
 use mathlib.Core.Bool.{Bool, true, false, cond, _&&_, false≢true}
-use mathlib.Core.List.{List, [], _∷_, _++_, append-assoc}
+use mathlib.Core.List.{List, [], _∷_, _++_}
 use Prim.Native.Nat.{ℕ, zero, suc, _+_, _-_, _*_, _%_, _^_, _≤_, _<_}
-use native.Mathlib.Nat.{not-suc-le-zero, mul-suc, pow-suc, pow-le-pow-right}
+use native.Mathlib.Nat.{not-suc-le-zero, mul-suc, pow-suc, pow-le-pow-right, mul-div-le}
 use native.Mathlib.Numerals.{add-one, sub-one}
 use native.Mathlib.Omega.{arith}
 use mathlib.Core.Logic.{_≢_}
 use lib.Dec.{ltb, leb, eqb, lit<}
-use lib.ListN.{length, getD, drop, set, length-append}
-use lib.Seq.{set-at, drop-cons}
+use lib.ListN.{length, getD, drop, set, length-append, length-set}
 use borrow.Author.Tests.{le-leb, lt-leb, leb-true, leb-false}
-use Rattle.hex_line.specs.Line.{isDigit, digitOf, valueOf, allDigits, allGroups, wellFormed, firsts, longestLine}
+use Rattle.event.specs.declared.Answer.{Answer}
+use Rattle.event.specs.declared.Answer.the-variants.{Accepted, Refused}
+use Rattle.event.specs.Outcome.{Outcome, done, given, answerOf, overlaid, inWordRoom}
+use Rattle.event.proofs.Answers.{refused-by}
+use Rattle.event.proofs.Impossible.{impossible}
+use Rattle.event.proofs.WordStores.{store-next}
+use Rattle.hex_line.specs.Line.{isDigit, digitOf, valueOf, allDigits, allGroups, wellFormed, firsts, wordsOf, wordCount, groupWords, longestLine}
 
 -- a test that counts down: at its end, and by what its first turn finds
 pub digits-none : (line : List ℕ) (at n : ℕ) → n ≤ 0 → allDigits line at n ≡ true
@@ -57,15 +62,6 @@ pub formed-long : (first k : ℕ) (line : List ℕ) → wellFormed first k line 
 unfolding wellFormed
 formed-long first k [] h = let z : _≡_ {A = ℕ} 0 1 = cc in omega arith
 formed-long first k (x ∷ xs) h = omega arith
-
--- nor has it another letter
-no-second : (a c d : Bool) → (a && false && c && d) ≡ false
-no-second true c d = refl
-no-second false c d = refl
-
-pub formed-not : (first k : ℕ) (line : List ℕ) → eqb (getD line 0 0) first ≡ false → wellFormed first k line ≡ false
-unfolding wellFormed
-formed-not first k line e = rw (e, no-second)
 
 -- nor is it too long
 no-first : (a b c d : Bool) → (a && false && b && c && d) ≡ false
@@ -125,11 +121,67 @@ unfolding firsts
 firsts-length f zero = refl
 firsts-length f (suc n) = length-append (firsts f n) _ ∙ omega (arith, firsts-length f n)
 
-store-next : (ws out : List ℕ) (k v : ℕ) → length ws ≡ k → k < length out
-    → set (ws ++ drop k out) k v ≡ (ws ++ (v ∷ [])) ++ drop (k + 1) out
-store-next ws out k v e h = rw (add-one, drop-cons out k 0, append-assoc, set-at ws (getD out k 0) (drop (suc k) out) v k e)
-
-pub firsts-next : (f : ℕ → ℕ) (out : List ℕ) (k : ℕ) → k < length out
+firsts-next : (f : ℕ → ℕ) (out : List ℕ) (k : ℕ) → k < length out
     → set (firsts f k ++ drop k out) k (f k) ≡ firsts f (k + 1) ++ drop (k + 1) out
 unfolding firsts
 firsts-next f out k h = rw (add-one k, ← add-one k) (store-next (firsts f k) out k (f k) (firsts-length f k) h)
+
+-- a line's words, stored one by one behind the letter
+module _ (first k : ℕ) (line out : List ℕ) where
+  abbrev stored : Outcome ℕ
+  stored = inWordRoom (length out) (groupWords first k line)
+
+  -- a refused line leaves the buffer as it was
+  pub refuse-line : {answer : Answer} {n p : ℕ} → answer ≡ answerOf stored → answer ≡ Refused n p
+      → (answer ≡ answerOf stored) × (out ≡ overlaid (given stored) out)
+  refuse-line e a = (e, rw (refused-by stored (sym a ∙ e)))
+
+  -- with `count` words in all, i of them stand in the buffer
+  pub record Filled (count i : ℕ) (buffer : List ℕ) : Type 0 where
+    pub turns : i ≤ count
+    pub inRoom : count ≤ length out
+    pub inLine : 1 + (k + 1) * count ≤ length line
+    pub itsWords : stored ≡ done (wordsOf k line count)
+    pub same : length buffer ≡ length out
+    pub stands : buffer ≡ wordsOf k line i ++ drop i out
+
+  pub fill-none : {answer : Answer} {count : ℕ} → answer ≡ answerOf stored → answer ≡ Accepted count → Filled count 0 out
+  unfolding firsts
+  fill-none {answer} {count} e a = go (wellFormed first k line) refl (leb (wordCount k line) (length out)) refl
+    where
+      n : ℕ
+      n = wordCount k line
+
+      h : Accepted count ≡ answerOf stored
+      h = sym a ∙ e
+
+      go : (f : Bool) → wellFormed first k line ≡ f → (r : Bool) → leb n (length out) ≡ r → Filled count 0 out
+      go false f r l = let x = rw f at h in impossible cc
+      go true f false l = let x = rw (f, firsts-length, l) at h in impossible cc
+      go true f true l =
+          let x = rw (f, firsts-length, l, firsts-length) at h in
+          let c : count ≡ n = cc in
+          rw c (record {
+            turns = omega arith;
+            inRoom = leb-true _ _ l;
+            inLine = omega (arith, formed-long first k line f, mul-div-le (length line - 1) (k + 1));
+            itsWords = rw (f, firsts-length, l);
+            same = refl;
+            stands = refl;
+          })
+
+  pub fill-next : {count i v : ℕ} {buffer : List ℕ} → Filled count i buffer → i < count → v ≡ valueOf line (2 + (k + 1) * i) k
+      → Filled count (i + 1) (set buffer i v)
+  fill-next {count} {i} {v} {buffer} p l e = record {
+    turns = omega arith;
+    inRoom = p .inRoom;
+    inLine = p .inLine;
+    itsWords = p .itsWords;
+    same = simp length-set (p .same);
+    stands = rw (p .stands, e) (firsts-next _ out i (omega arith));
+  }
+
+  pub fill-all : {count i : ℕ} {buffer : List ℕ} → Filled count i buffer → count ≤ i → buffer ≡ overlaid (given stored) out
+  fill-all {count} {i} {buffer} p l =
+      let e : i ≡ count = omega arith in
+      rw (p .itsWords, firsts-length, ← e) (p .stands)

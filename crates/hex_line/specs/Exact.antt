@@ -7,7 +7,8 @@ use mathlib.Core.List.{List, _∷_}
 use lib.ListN.{length}
 use Rattle.event.specs.Parser.{each, All}
 use Rattle.event.specs.Outcome.{done}
-use Rattle.dialects.specs.Dialects.{Dialect, width}
+use Rattle.dialects.specs.declared.Dialect.{Dialect}
+use Rattle.dialects.specs.Dialects.{width}
 use Rattle.hex_line.specs.Line.{letter, digits, longestLine, lineWords}
 use Rattle.hex_line.specs.Text.{hexOf}
 

@@ -4,11 +4,13 @@
 use mathlib.Core.Bool.{Bool, true, cond, _&&_, _||_}
 use mathlib.Core.List.{List, [], _∷_, _++_}
 use Prim.Native.Nat.{ℕ, zero, suc, _+_, _-_, _*_, _/_, _%_}
-use lib.Dec.{ltb, eqb}
+use lib.Dec.{ltb, leb, eqb}
 use lib.ListN.{length, getD}
 use Rattle.event.specs.Outcome.{Outcome, done, refused, inWordRoom}
 use Rattle.event.specs.Words.{between}
-use Rattle.dialects.specs.Dialects.{Dialect, S, F, width}
+use Rattle.dialects.specs.declared.Dialect.{Dialect}
+use Rattle.dialects.specs.declared.Dialect.the-variants.{S, F}
+use Rattle.dialects.specs.Dialects.{width}
 
 -- the code of the letter that a line of the dialect begins with
 abbrev pub letter : Dialect → ℕ
@@ -58,6 +60,10 @@ unfoldable pub valueOf : List ℕ → ℕ → ℕ → ℕ
 valueOf line at zero = 0
 valueOf line at (suc n) = valueOf line at n * 16 + digitOf (getD line (at + n) 0)
 
+-- the number of the eight digits from index `at` on, 0 where fewer than eight characters stand there
+unfoldable pub numberAt : List ℕ → ℕ → ℕ
+numberAt text at = cond (leb (at + 8) (length text)) (valueOf text at 8) 0
+
 -- f 0, f 1, and so on: n of them
 unfoldable pub firsts : (ℕ → ℕ) → ℕ → List ℕ
 firsts f zero = []
@@ -67,11 +73,18 @@ firsts f (suc n) = firsts f n ++ (f n ∷ [])
 abbrev pub wordsOf : ℕ → List ℕ → ℕ → List ℕ
 wordsOf k line = firsts (λ (i : ℕ). valueOf line (2 + (k + 1) * i) k)
 
--- the words of a line: 30 unless it is one
+-- the words of k digits each behind a letter: 30 unless the line is such a line
+abbrev pub groupWords : ℕ → ℕ → List ℕ → Outcome ℕ
+groupWords first k line = cond (wellFormed first k line) (done (wordsOf k line (wordCount k line))) (refused 30 0)
+
+-- the words of a line
 abbrev pub lineWords : Dialect → List ℕ → Outcome ℕ
-lineWords d line =
-    cond (wellFormed (letter d) (digits d) line) (done (wordsOf (digits d) line (wordCount (digits d) line))) (refused 30 0)
+lineWords d = groupWords (letter d) (digits d)
 
 -- into room for so many words: 24 last
 abbrev pub lineInto : Dialect → (room : ℕ) → List ℕ → Outcome ℕ
 lineInto d room line = inWordRoom room (lineWords d line)
+
+-- the most words of a line that is not too long
+abbrev pub mostWords : Dialect → ℕ
+mostWords d = (longestLine - 1) / (digits d + 1)

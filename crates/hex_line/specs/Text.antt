@@ -24,9 +24,16 @@ unfoldable pub hexOf : ℕ → ℕ → List ℕ
 hexOf zero n = []
 hexOf (suc k) n = hexOf k (n / 16) ++ (character (n % 16) ∷ [])
 
--- a buffer with the text at index `at`, where it has room for all of it
+-- a label and a number behind it
+unfoldable pub field : List ℕ → ℕ → List ℕ
+field label n = label ++ hexOf 8 n
+
+-- a buffer with the text at index `at`, where it has room for all of it, and the index behind the text; else the buffer as it is, and `at`
 unfoldable pub put : List ℕ → ℕ → List ℕ → List ℕ
 put buffer at t = cond (leb (at + length t) (length buffer)) (sets buffer at t) buffer
+
+unfoldable pub endOf : List ℕ → ℕ → List ℕ → ℕ
+endOf buffer at t = cond (leb (at + length t) (length buffer)) (at + length t) at
 
 -- the text stands at index `at` and ends before index k: `before` and `after` are the buffer
 pub record Placed (before : List ℕ) (at : ℕ) (t : List ℕ) (k : ℕ) (after : List ℕ) : Type 0 where

@@ -3,7 +3,8 @@ mod line;
 mod text;
 
 pub use line::LONGEST_LINE;
-pub use line::f_words;
-pub use line::s_words;
-pub use text::put_bytes;
-pub use text::put_digits;
+pub use line::number_at;
+pub use line::words;
+pub use text::put_field;
+pub use text::put_number;
+pub use text::put_text;

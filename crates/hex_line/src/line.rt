@@ -1,58 +1,102 @@
 // A line's characters as words: first the whole line is tested, then its words are stored, so that a refused line stores nothing.
+use crate::text::has_room;
+use dialects::Dialect;
 use event::Answer;
 use event::refusal;
 ghost use Prim.Native.Nat.{_+_, _*_, _≤_};
 ghost use mathlib.Core.Path.{_≡_};
-ghost use mathlib.Core.List.{_++_};
-ghost use lib.ListN.{length, drop};
-ghost use Rattle.event.specs.Outcome.{answerOf, given, overlaid};
-ghost use Rattle.dialects.specs.Dialects.{S, F};
-ghost use Rattle.hex_line.specs.Line.{isDigit, digitOf, valueOf, allDigits, allGroups, wellFormed, wordsOf, lineInto};
+ghost use lib.ListN.{length};
+ghost use Rattle.event.specs.Outcome.{answerOf, given, overlaid, inWordRoom};
+ghost use Rattle.dialects.specs.Dialects.{ofWidth, over16, over32};
+ghost use Rattle.hex_line.specs.Line.{letter, isDigit, digitOf, valueOf, numberAt, allDigits, allGroups, wellFormed, groupWords, lineInto};
 
 // The most characters of a line.
 pub const LONGEST_LINE: usize = 20481;
 
-// The words of a line of dialect S.
-pub fn s_words(line: &[u8], words: &mut [u16]) -> Answer
-    ensures answer { λ r. ⌜ r ≡ answerOf (lineInto S (length (now (words .entry))) (now (line .entry))) ⌝ }
-    ensures buffer { λ _. ⌜ now (words .exit) ≡ overlaid (given (lineInto S (length (now (words .entry))) (now (line .entry)))) (now (words .entry)) ⌝ }
+// The words of a line of a dialect, in the buffer of their width: the other stays as it was.
+pub fn words(dialect: Dialect, line: &[u8], words: &mut [u16], longwords: &mut [u32]) -> Answer
+    ensures answer { λ r. ⌜ r ≡ answerOf (lineInto dialect (length (ofWidth dialect (now (words .entry)) (now (longwords .entry)))) (now (line .entry))) ⌝ }
+    ensures words { λ _. ⌜ now (words .exit) ≡ over16 dialect (given (lineInto dialect (length (ofWidth dialect (now (words .entry)) (now (longwords .entry)))) (now (line .entry)))) (now (words .entry)) ⌝ }
+    ensures longwords { λ _. ⌜ now (longwords .exit) ≡ over32 dialect (given (lineInto dialect (length (ofWidth dialect (now (words .entry)) (now (longwords .entry)))) (now (line .entry)))) (now (longwords .entry)) ⌝ }
 {
-    if !well_formed(line, b'S', 4) {
-        return Answer::Refused {
-            number: refusal::LINE,
-            place: 0,
-        };
+    if dialects::width(dialect) == 16 {
+        return fill16(line, letter(dialect), words);
     }
-    let count = (line.len() - 1) / 5;
-    if words.len() < count {
-        return Answer::Refused {
-            number: refusal::WORDS,
-            place: count,
-        };
-    }
-    fill_s(line, count, words);
-    Answer::Accepted(count)
+    fill32(line, letter(dialect), longwords)
 }
 
-// The words of a line of dialect F.
-pub fn f_words(line: &[u8], words: &mut [u32]) -> Answer
-    ensures answer { λ r. ⌜ r ≡ answerOf (lineInto F (length (now (words .entry))) (now (line .entry))) ⌝ }
-    ensures buffer { λ _. ⌜ now (words .exit) ≡ overlaid (given (lineInto F (length (now (words .entry))) (now (line .entry)))) (now (words .entry)) ⌝ }
+// The number of the eight digits from `at` on, 0 where fewer than eight characters stand there.
+pub fn number_at(text: &[u8], at: usize) -> u32
+    ensures { λ r. ⌜ r ≡ numberAt (now (text .entry)) at ⌝ }
 {
-    if !well_formed(line, b'F', 8) {
+    if !has_room(text.len(), at, 8) {
+        return 0;
+    }
+    value(text, at, 8)
+}
+
+// The letter that a line of the dialect begins with.
+fn letter(dialect: Dialect) -> u8
+    ensures { λ r. ⌜ r ≡ letter dialect ⌝ }
+{
+    match dialect {
+        Dialect::S => b'S',
+        Dialect::F => b'F',
+    }
+}
+
+// The words of four digits each behind a letter.
+fn fill16(line: &[u8], letter: u8, words: &mut [u16]) -> Answer
+    ensures answer { λ r. ⌜ r ≡ answerOf (inWordRoom (length (now (words .entry))) (groupWords letter 4 (now (line .entry)))) ⌝ }
+    ensures buffer { λ _. ⌜ now (words .exit) ≡ overlaid (given (inWordRoom (length (now (words .entry))) (groupWords letter 4 (now (line .entry))))) (now (words .entry)) ⌝ }
+{
+    let answer = count_words(line, letter, 4, words.len());
+    let Answer::Accepted(count) = answer else {
+        return answer;
+    };
+    let mut i = 0;
+    while i < count {
+        words[i] = value(line, 2 + 5 * i, 4) as u16;
+        i += 1;
+    }
+    answer
+}
+
+// The words of eight digits each behind a letter.
+fn fill32(line: &[u8], letter: u8, words: &mut [u32]) -> Answer
+    ensures answer { λ r. ⌜ r ≡ answerOf (inWordRoom (length (now (words .entry))) (groupWords letter 8 (now (line .entry)))) ⌝ }
+    ensures buffer { λ _. ⌜ now (words .exit) ≡ overlaid (given (inWordRoom (length (now (words .entry))) (groupWords letter 8 (now (line .entry))))) (now (words .entry)) ⌝ }
+{
+    let answer = count_words(line, letter, 8, words.len());
+    let Answer::Accepted(count) = answer else {
+        return answer;
+    };
+    let mut i = 0;
+    while i < count {
+        words[i] = value(line, 2 + 9 * i, 8);
+        i += 1;
+    }
+    answer
+}
+
+// How many words of so many digits stand behind the letter, where there is room for them.
+fn count_words(line: &[u8], letter: u8, digits: usize, room: usize) -> Answer
+    requires { ⌜ digits ≤ 8 ⌝ }
+    ensures { λ r. ⌜ r ≡ answerOf (inWordRoom room (groupWords letter digits (now (line .entry)))) ⌝ }
+{
+    if !well_formed(line, letter, digits) {
         return Answer::Refused {
             number: refusal::LINE,
             place: 0,
         };
     }
-    let count = (line.len() - 1) / 9;
-    if words.len() < count {
+    let count = (line.len() - 1) / (digits + 1);
+    if room < count {
         return Answer::Refused {
             number: refusal::WORDS,
             place: count,
         };
     }
-    fill_f(line, count, words);
     Answer::Accepted(count)
 }
 
@@ -125,28 +169,6 @@ fn is_digit(character: u8) -> bool
         return false;
     }
     character <= b'f'
-}
-
-fn fill_s(line: &[u8], count: usize, words: &mut [u16])
-    requires { ⌜ (count ≤ length (now words)) × (1 + 5 * count ≤ length (now line)) ⌝ }
-    ensures { λ _. ⌜ now (words .exit) ≡ wordsOf 4 (now (line .entry)) count ++ drop count (now (words .entry)) ⌝ }
-{
-    let mut i = 0;
-    while i < count {
-        words[i] = value(line, 2 + 5 * i, 4) as u16;
-        i += 1;
-    }
-}
-
-fn fill_f(line: &[u8], count: usize, words: &mut [u32])
-    requires { ⌜ (count ≤ length (now words)) × (1 + 9 * count ≤ length (now line)) ⌝ }
-    ensures { λ _. ⌜ now (words .exit) ≡ wordsOf 8 (now (line .entry)) count ++ drop count (now (words .entry)) ⌝ }
-{
-    let mut i = 0;
-    while i < count {
-        words[i] = value(line, 2 + 9 * i, 8);
-        i += 1;
-    }
 }
 
 // The value of so many digits from `at` on.

@@ -1,18 +1,76 @@
-// Numbers and texts as characters in a lent buffer, where it has room for all of them.
-ghost use Prim.Native.Nat.{_<_};
+// Numbers and texts as characters in a lent buffer. Each is put where the buffer has room for all of it behind `at`, and where it ends is answered;
+// else nothing is put, and `at` answered.
+ghost use Prim.Native.Nat.{_+_, _<_, _≤_};
 ghost use mathlib.Core.Path.{_≡_};
-ghost use Rattle.hex_line.specs.Text.{character, hexOf, put};
+ghost use lib.Dec.{leb};
+ghost use lib.ListN.{length};
+ghost use lib.Seq.{sets};
+ghost use Rattle.hex_line.specs.Text.{character, hexOf, field, put, endOf};
+
+// Puts a text at `at`.
+pub fn put_text(buffer: &mut [u8], at: usize, text: &[u8]) -> usize
+    ensures end { λ r. ⌜ r ≡ endOf (now (buffer .entry)) at (now (text .entry)) ⌝ }
+    ensures buffer { λ _. ⌜ now (buffer .exit) ≡ put (now (buffer .entry)) at (now (text .entry)) ⌝ }
+{
+    if !has_room(buffer.len(), at, text.len()) {
+        return at;
+    }
+    store_text(buffer, at, text);
+    at + text.len()
+}
 
 // Puts the last eight hexadecimal digits of a number at `at`.
-pub fn put_digits(buffer: &mut [u8], at: usize, number: u64)
-    ensures { λ _. ⌜ now (buffer .exit) ≡ put (now (buffer .entry)) at (hexOf 8 number) ⌝ }
+pub fn put_number(buffer: &mut [u8], at: usize, number: u64) -> usize
+    ensures end { λ r. ⌜ r ≡ endOf (now (buffer .entry)) at (hexOf 8 number) ⌝ }
+    ensures buffer { λ _. ⌜ now (buffer .exit) ≡ put (now (buffer .entry)) at (hexOf 8 number) ⌝ }
 {
-    if buffer.len() < 8 {
-        return;
+    if !has_room(buffer.len(), at, 8) {
+        return at;
     }
-    if buffer.len() - 8 < at {
-        return;
+    store_digits(buffer, at, number);
+    at + 8
+}
+
+// Puts a label and a number behind it at `at`.
+pub fn put_field(buffer: &mut [u8], at: usize, label: &[u8], number: u64) -> usize
+    ensures end { λ r. ⌜ r ≡ endOf (now (buffer .entry)) at (field (now (label .entry)) number) ⌝ }
+    ensures buffer { λ _. ⌜ now (buffer .exit) ≡ put (now (buffer .entry)) at (field (now (label .entry)) number) ⌝ }
+{
+    if !has_room(buffer.len(), at, 8) {
+        return at;
     }
+    if buffer.len() - at - 8 < label.len() {
+        return at;
+    }
+    store_text(buffer, at, label);
+    put_number(buffer, at + label.len(), number)
+}
+
+// Whether `count` characters from `at` on are within `length`.
+pub(crate) fn has_room(length: usize, at: usize, count: usize) -> bool
+    ensures { λ r. ⌜ r ≡ leb (at + count) length ⌝ }
+{
+    if length < at {
+        return false;
+    }
+    count <= length - at
+}
+
+fn store_text(buffer: &mut [u8], at: usize, text: &[u8])
+    requires { ⌜ at + length (now text) ≤ length (now buffer) ⌝ }
+    ensures { λ _. ⌜ now (buffer .exit) ≡ sets (now (buffer .entry)) at (now (text .entry)) ⌝ }
+{
+    let mut i = 0;
+    while i < text.len() {
+        buffer[at + i] = text[i];
+        i += 1;
+    }
+}
+
+fn store_digits(buffer: &mut [u8], at: usize, number: u64)
+    requires { ⌜ at + 8 ≤ length (now buffer) ⌝ }
+    ensures { λ _. ⌜ now (buffer .exit) ≡ sets (now (buffer .entry)) at (hexOf 8 number) ⌝ }
+{
     let seven = number / 16;
     let six = seven / 16;
     let five = six / 16;
@@ -28,23 +86,6 @@ pub fn put_digits(buffer: &mut [u8], at: usize, number: u64)
     buffer[at + 5] = digit(six % 16);
     buffer[at + 6] = digit(seven % 16);
     buffer[at + 7] = digit(number % 16);
-}
-
-// Puts a text at `at`.
-pub fn put_bytes(buffer: &mut [u8], at: usize, text: &[u8])
-    ensures { λ _. ⌜ now (buffer .exit) ≡ put (now (buffer .entry)) at (now (text .entry)) ⌝ }
-{
-    if buffer.len() < text.len() {
-        return;
-    }
-    if buffer.len() - text.len() < at {
-        return;
-    }
-    let mut i = 0;
-    while i < text.len() {
-        buffer[at + i] = text[i];
-        i += 1;
-    }
 }
 
 // The character of a digit.

@@ -6,7 +6,7 @@ use native.Mathlib.Nat.{mul-div-le}
 use native.Mathlib.Omega.{arith}
 use borrow.Author.Needs.{needs}
 use borrow.Author.Tests.{le-leb, lt-leb, eq-eqb, ne-eqb}
-use Rattle.hex_line.specs.Line.{wellFormed}
+use Rattle.hex_line.specs.Line.{longestLine, wellFormed}
 use Rattle.hex_line.proofs.LineLaws.{length-some, length-none}
 use Rattle.hex_line.proofs.line.well_formed.Statement.{statement}
 use Rattle.hex_line.proofs.line.well_formed.Tie as tie
@@ -17,26 +17,40 @@ returns c = simp (length-none _ (c .if1 .taken))
 
 returns-2 : tie.Need-returns-2
 unfolding wellFormed
-returns-2 c = simp (length-some _ (c .before .if1 .left), lt-leb _ 20481 (c .if2 .taken))
+returns-2 c = simp (length-some _ (c .before .if1 .left), lt-leb _ longestLine (c .if2 .taken))
+
+-- the places: the entry, and where each test was passed
+abbrev not-empty : tie.Else2 → tie.Else1
+not-empty c = c .before
+
+abbrev not-long : tie.Else3 → tie.Else2
+not-long c = c .before .before
 
 returns-3 : tie.Need-returns-3
 unfolding wellFormed
-returns-3 c = simp (length-some _ (c .before .before .before .if1 .left), le-leb _ 20481 (c .before .before .if2 .left), ne-eqb _ _ (c .if3 .taken))
+returns-3 c =
+    let p : tie.Else2 = c .before .before in
+    simp (length-some _ (not-empty p .if1 .left), le-leb _ longestLine (p .if2 .left), ne-eqb _ _ (c .if3 .taken))
 
 returns-4 : tie.Need-returns-4
 unfolding wellFormed
 returns-4 c =
-    simp (length-some _ (c .before .before .before .before .if1 .left), le-leb _ 20481 (c .before .before .before .if2 .left), eq-eqb _ _ (c .before .if3 .left), ne-eqb _ _ (c .if4 .taken))
+    let q : tie.Else3 = c .before in
+    let p = not-long q in
+    simp (length-some _ (not-empty p .if1 .left), le-leb _ longestLine (p .if2 .left), eq-eqb _ _ (q .if3 .left), ne-eqb _ _ (c .if4 .taken))
 
 returns-5 : tie.Need-returns-5
 unfolding wellFormed
 returns-5 c =
+    let q : tie.Else3 = c .before .before in
+    let p = not-long q in
     c .all-groups .ensures
-    ∙ simp (length-some _ (c .before .before .before .before .before .if1 .left), le-leb _ 20481 (c .before .before .before .before .if2 .left), eq-eqb _ _ (c .before .before .if3 .left), eq-eqb _ _ (c .before .if4 .left))
+    ∙ simp (length-some _ (not-empty p .if1 .left), le-leb _ longestLine (p .if2 .left), eq-eqb _ _ (q .if3 .left), eq-eqb _ _ (c .before .if4 .left))
 
 all-groups-requires : tie.Need-all-groups-requires
 all-groups-requires c κs =
-    (search needs, omega (arith, mul-div-le (length (c .before .before .before .before .before .before .args .line .now) - 1) (c .before .before .before .before .before .before .args .digits + 1)))
+    let s : tie.Start = not-empty (not-long (c .before)) .before .before in
+    (search needs, omega (arith, mul-div-le (length (s .args .line .now) - 1) (s .args .digits + 1)))
 
 pub well-formed-spec : {M : Type 1} → statement M
 well-formed-spec =
