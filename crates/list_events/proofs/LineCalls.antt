@@ -1,62 +1,70 @@
--- A line by the call of `line_rows`, in the program's room: its answer, its rows and what is counted.
+-- A line by the call of `line_rows`, in the program's room: its answer and its rows.
 -- Assumes nothing.
-use Prim.Native.Nat.{ℕ, _-_, _*_, _≤_}
+use Prim.Native.Nat.{ℕ, _+_, _-_, _*_, _/_, _≤_}
 use native.Mathlib.Omega.{arith}
-use mathlib.Core.Path.{_≡_, refl, ap, _∙_}
-use mathlib.Core.List.{List}
+use mathlib.Core.Path.{_≡_, sym, ap, _∙_}
+use mathlib.Core.Bool.{false, cond}
+use mathlib.Core.List.{List, []}
+use lib.Dec.{eqb}
 use lib.ListN.{length, take, drop}
 use lib.Seq.{take-at}
 use Rattle.event.specs.declared.Answer.{Answer}
+use Rattle.event.specs.declared.Answer.the-variants.{Accepted, Refused}
 use Rattle.event.specs.declared.Row.{Row}
-use Rattle.event.specs.Outcome.{Outcome, done, refused, answerOf, given, overlaid, defaultOrder}
+use Rattle.event.specs.declared.StampOrder.{StampOrder}
+use Rattle.event.specs.Outcome.{Outcome, answerOf, accepted, given, overlaid, defaultOrder}
 use Rattle.event.specs.Rows.{flat, room}
 use Rattle.event.specs.Writing.{rowsIn}
+use Rattle.event.proofs.Answers.{refused-by, given-by}
 use Rattle.event.proofs.RowCodes.{flat-in}
 use Rattle.event.proofs.Stores.{length-flat}
-use Rattle.listing.specs.Listing.{lineRows, lineRowsInto, wordRooms, acceptedIn, refusedIn}
+use Rattle.dialects.specs.Dialects.{ofWidth}
+use Rattle.dialects.proofs.Widths.{by-width}
+use Rattle.hex_line.specs.Line.{longestLine}
+use Rattle.listing.specs.Lengths.{mostRows}
+use Rattle.listing.specs.Listing.{lineDialect, lineRows, lineRowsInto}
 use Rattle.listing.proofs.Room.{room-enough, few-line-rows}
-use Rattle.list_events.specs.Run.{Rooms, countOf, acceptedOf}
+use Rattle.list_events.specs.Run.{Rooms, answerTo, rowsTo}
 
-count-given : (x : Outcome Row) → countOf (answerOf x) ≡ length (given x)
-count-given (done rs) = refl
-count-given (refused n k) = refl
+abbrev pub rowsInto : StampOrder → (line words longwords rows : List ℕ) → Outcome Row
+rowsInto o line words longwords rows = lineRowsInto (length (ofWidth (lineDialect line) words longwords)) (room (length rows)) o line
 
-accepted-in : (x : Outcome Row) → acceptedOf (answerOf x) ≡ acceptedIn x
-accepted-in (done rs) = refl
-accepted-in (refused n k) = refl
-
-refused-in : (x : Outcome Row) → 1 - acceptedOf (answerOf x) ≡ refusedIn x
-refused-in (done rs) = refl
-refused-in (refused n k) = refl
+-- the stamp order and the line by their names
+pub named : {o : StampOrder} {l : List ℕ} (line words longwords rows : List ℕ) → o ≡ defaultOrder → l ≡ line
+    → rowsInto o l words longwords rows ≡ rowsInto defaultOrder line words longwords rows
+named line words longwords rows p q = rw (p, q)
 
 module _ (line words longwords rows : List ℕ) (rooms : Rooms words longwords rows) where
   abbrev called : Outcome Row
-  called = lineRowsInto (wordRooms (length words) (length longwords)) (room (length rows)) defaultOrder line
+  called = rowsInto defaultOrder line words longwords rows
 
-  abbrev its : Outcome Row
-  its = lineRows defaultOrder line
-
-  same : called ≡ its
-  same = rw (rooms .0, rooms .1, rooms .2) (room-enough defaultOrder line)
+  same : called ≡ lineRows defaultOrder line
+  same =
+      let w = by-width (λ (w : ℕ). (longestLine - 1) / (w / 4 + 1) ≤ length (cond (eqb w 16) words longwords)) (rooms .0) (rooms .1) (lineDialect line) in
+      room-enough defaultOrder line w (omega (arith, rooms .2))
 
   module _ {answer : Answer} (a : answer ≡ answerOf called) where
-    pub answered : answer ≡ answerOf its
+    pub answered : answer ≡ answerTo line
     answered = a ∙ ap answerOf same
 
-    counted : countOf answer ≡ length (given its)
-    counted = ap countOf answered ∙ count-given its
+    -- a refused line has no rows
+    module _ {n p : ℕ} (r : answer ≡ Refused n p) where
+      pub refuses : accepted answer ≡ false
+      refuses = rw r
 
-    pub few : countOf answer ≤ 4096
-    few = rw counted (few-line-rows defaultOrder line)
+      pub no-rows : [] ≡ rowsTo line
+      no-rows = sym (ap given (refused-by (lineRows defaultOrder line) (sym r ∙ answered)))
 
-    pub accepts : acceptedOf answer ≡ acceptedIn its
-    accepts = ap acceptedOf answered ∙ accepted-in its
+    -- the rows of an accepted one stand in the buffer
+    module _ {k : ℕ} (r : answer ≡ Accepted k) where
+      counted : k ≡ length (rowsTo line)
+      counted = let g = given-by (lineRows defaultOrder line) (sym r ∙ answered) in g .counted ∙ sym (ap (λ (x : Outcome Row). length (given x)) (g .outcome))
 
-    pub refuses : 1 - acceptedOf answer ≡ refusedIn its
-    refuses = ap (λ (r : Answer). 1 - acceptedOf r) answered ∙ refused-in its
+      pub few : k ≤ mostRows
+      few = rw counted (few-line-rows defaultOrder line)
 
-    pub rows-given : {rows′ : List ℕ} → rows′ ≡ overlaid (flat (given called)) rows → rowsIn (take (countOf answer * 4) rows′) ≡ given its
-    rows-given {rows′} b =
-        ap (λ (l : List ℕ). rowsIn (take (countOf answer * 4) l)) (b ∙ ap (λ (x : Outcome Row). overlaid (flat (given x)) rows) same)
-        ∙ ap rowsIn (take-at (flat (given its)) (drop (length (flat (given its))) rows) (countOf answer * 4) (omega (arith, length-flat (given its), counted)))
-        ∙ flat-in (given its)
+      pub rows-given : {rows′ : List ℕ} → rows′ ≡ overlaid (flat (given called)) rows → rowsIn (take (k * 4) rows′) ≡ rowsTo line
+      rows-given {rows′} b =
+          let f = flat (rowsTo line) in
+          let e : rows′ ≡ overlaid f rows = b ∙ ap (λ (x : Outcome Row). overlaid (flat (given x)) rows) same in
+          rw (e, take-at f (drop (length f) rows) (k * 4) (omega (arith, length-flat (rowsTo line), counted))) (flat-in (rowsTo line))

@@ -3,25 +3,28 @@
 use Prim.Native.Nat.{ℕ, zero, suc, _+_, _-_, _≤_, _<_}
 use native.Mathlib.Omega.{arith}
 use mathlib.Core.Path.{_≡_, refl, sym, ap, _∙_}
-use mathlib.Core.Bool.{Bool, true, false}
+use mathlib.Core.Bool.{Bool, true, false, cond}
 use mathlib.Core.List.{List, [], _∷_, _++_, append-assoc, append-nil}
 use lib.Dec.{eqb, ltb}
 use lib.ListN.{length, take, drop, length-take, length-drop}
 use lib.Seq.{take-nil, take-take, take-all, drop-drop}
 use borrow.Author.Tests.{eqb-true, eqb-false, ltb-true, ltb-false}
+use Rattle.event.specs.declared.Answer.{Answer}
 use Rattle.event.specs.declared.Answer.the-variants.{Refused}
-use Rattle.event.specs.Outcome.{defaultOrder, answerOf, given}
+use Rattle.event.specs.declared.Row.{Row}
+use Rattle.event.specs.Outcome.{defaultOrder, accepted}
 use Rattle.listing.specs.declared.Next.the-variants.{Line, Long, End, Cut}
 use Rattle.hex_line.specs.Text.{Placed}
 use Rattle.listing.specs.Input.{firstLine}
-use Rattle.listing.specs.Listing.{linesOf, lineRows, acceptedIn, refusedIn, listFrom}
+use Rattle.listing.specs.Lengths.{lastLength, mostText}
+use Rattle.listing.specs.Listing.{linesOf, acceptedIn, refusedIn, listFrom}
 use Rattle.listing.specs.Text.{eventText, lastText}
 use Rattle.listing.proofs.InputLaws.{Known, first-within}
 use Rattle.listing.proofs.ListingLaws.{first-whole, first-last, begins, list-line, list-long, list-cut, list-end, long-refused}
 use Rattle.listing.proofs.Room.{most-text}
 use Rattle.listing.proofs.TextLaws.{last-length}
 use Rattle.list_events.specs.declared.Run.{Run}
-use Rattle.list_events.specs.Run.{Inside, restOf, behind, LineListed, Kept, RestPut}
+use Rattle.list_events.specs.Run.{Inside, LineInside, restOf, behind, answerTo, rowsTo, LineListed, Kept, RestPut}
 use Rattle.list_events.proofs.Texts.{pending}
 
 lt-of-le-ne : {a b m : ℕ} → b ≤ a → (a ≡ b → ⊥) → m ≡ a → b < m
@@ -38,6 +41,33 @@ behind-within run k h w = go (eqb (run .end - run .from) k) refl
     go : (b : Bool) → eqb (run .end - run .from) k ≡ b → (run .from < behind run k) × (behind run k ≤ run .end)
     go true t = rw t (h, omega arith)
     go false t = rw t (omega arith, omega (arith, lt-of-le-ne {m = run .end - run .from} w (eqb-false (run .end - run .from) k t) refl))
+
+-- the run behind a line that was listed
+one-line : (a : Answer) → acceptedIn a + refusedIn a ≡ 1
+one-line a = go (accepted a)
+  where
+    go : (b : Bool) → cond b 1 0 + cond b 0 1 ≡ 1
+    go true = refl
+    go false = refl
+
+listed-inside : {n m k : ℕ} {run run′ : Run} (line : List ℕ) {text text′ : List ℕ} → Inside n m run → LineInside k m run
+    → LineListed (answerTo line) (rowsTo line) (behind run k) run text run′ text′ → Inside n m run′
+listed-inside {n} {m} {k} {run} {run′} line i l d =
+    let w = behind-within run k (l .some) (l .within) in
+    record {
+      begins = rw (d .from, d .end) (w .1);
+      ends = rw (d .end) (i .ends);
+      text = omega (arith, d .placed .ends, l .text, most-text defaultOrder line (run .accepted + run .refused + 1));
+      lines = omega (arith, d .accepted, d .refused, l .lines, one-line (answerTo line));
+    }
+
+-- a line by its answer and its rows
+pub listed-as : {n m k : ℕ} {run run′ : Run} (line : List ℕ) {text text′ : List ℕ} {answer : Answer} {rs : List Row} → answer ≡ answerTo line → rs ≡ rowsTo line
+    → Inside n m run → LineInside k m run → LineListed answer rs (behind run k) run text run′ text′
+    → Inside n m run′ × LineListed (answerTo line) (rowsTo line) (behind run k) run text run′ text′
+listed-as {n} {m} {k} {run} {run′} line {text} {text′} a r i l d =
+    let e : LineListed (answerTo line) (rowsTo line) (behind run k) run text run′ text′ = rw (← a, ← r) d in
+    (listed-inside line i l e, e)
 
 -- a run whose text was written
 pub emptied : {n m k : ℕ} {run : Run} → Inside n m run → Inside n k (record { from = run .from; end = run .end; at = 0; accepted = run .accepted; refused = run .refused })
@@ -66,7 +96,7 @@ module _ (ended : Bool) (input text : List ℕ) (run : Run) (inside : Inside (le
 
   -- what is listed of a line
   abbrev lineText : List ℕ → List ℕ
-  lineText l = eventText (run .accepted + run .refused + 1) (answerOf (lineRows defaultOrder l)) (given (lineRows defaultOrder l))
+  lineText l = eventText (run .accepted + run .refused + 1) (answerTo l) (rowsTo l)
 
   module _ (k : ℕ) where
     abbrev line : List ℕ
@@ -117,16 +147,20 @@ module _ (ended : Bool) (input text : List ℕ) (run : Run) (inside : Inside (le
           go true t = rw (f, e, t) (behind-end later l (omega (arith, rest-length, eqb-true (run .end - run .from) k t)))
           go false t = rw (f, e, t) (behind-feed later (lt-of-le-ne within (eqb-false (run .end - run .from) k t) rest-length))
 
-      pub line-kept : {run′ : Run} {text′ : List ℕ} → run .at + 147503 ≤ length text → LineListed line (behind run k) run text run′ text′ → Kept ended input run text run′ text′
+      pub line-kept : {run′ : Run} {text′ : List ℕ} → run .at + mostText ≤ length text
+          → LineListed (answerTo line) (rowsTo line) (behind run k) run text run′ text′ → Kept ended input run text run′ text′
       line-kept {run′} {text′} h d later l =
+          let listed = listFrom defaultOrder (run .accepted + acceptedIn (answerTo line)) (run .refused + refusedIn (answerTo line)) (linesOf (restOf run′ input ++ later)) in
+          let m = most-text defaultOrder line (run .accepted + run .refused + 1) in
+          let q : take (run′ .at) text′ ≡ take (run .at) text ++ lineText line = pending (omega (arith, h, m)) (d .placed) in
           ap (λ (ls : List (List ℕ)). take (run .at) text ++ listFrom defaultOrder (run .accepted) (run .refused) ls) (behind-line run′ later l (d .from) (d .end))
           ∙ ap (take (run .at) text ++_) (list-line defaultOrder (run .accepted) (run .refused) line (linesOf (restOf run′ input ++ later)) (next .2) (rw line-length (next .3)))
-          ∙ sym (append-assoc (take (run .at) text) (lineText line) (listFrom defaultOrder (run .accepted + acceptedIn (lineRows defaultOrder line)) (run .refused + refusedIn (lineRows defaultOrder line)) (linesOf (restOf run′ input ++ later))))
-          ∙ (let q : take (run′ .at) text′ ≡ take (run .at) text ++ lineText line = pending (omega (arith, h, most-text defaultOrder line (run .accepted + run .refused + 1))) (d .placed) in rw (q, d .accepted, d .refused))
+          ∙ sym (append-assoc (take (run .at) text) (lineText line) listed)
+          ∙ rw (q, d .accepted, d .refused)
 
   -- the ends of a listing: nothing is left, too many lines, a line that is too long
   module _ {text′ : List ℕ} {n : ℕ} where
-    pub rest-ended : Known rest ended (run .accepted + run .refused) End → run .at + 37 ≤ length text
+    pub rest-ended : Known rest ended (run .accepted + run .refused) End → run .at + lastLength ≤ length text
         → Placed text (run .at) (lastText false (run .accepted) (run .refused)) n text′ → RestPut ended input run text n text′
     rest-ended k h p later l =
         pending (rw last-length h) p
@@ -136,15 +170,15 @@ module _ (ended : Bool) (input text : List ℕ) (run : Run) (inside : Inside (le
         none [] e = refl
         none (x ∷ r) e = absurd (omega arith)
 
-    pub rest-cut : Known rest ended (run .accepted + run .refused) Cut → run .at + 37 ≤ length text
+    pub rest-cut : Known rest ended (run .accepted + run .refused) Cut → run .at + lastLength ≤ length text
         → Placed text (run .at) (lastText true (run .accepted) (run .refused)) n text′ → RestPut ended input run text n text′
     rest-cut k h p later l =
         let b = begins rest later (k .0) in
         pending (rw last-length h) p
         ∙ ap (take (run .at) text ++_) (sym (rw (b .split) (list-cut defaultOrder (run .accepted) (run .refused) (b .line) (b .lines) (k .1))))
 
-    pub rest-long : {k : ℕ} {run₁ : Run} {text₁ : List ℕ} → Known rest ended (run .accepted + run .refused) (Long k) → run .at + 147540 ≤ length text
-        → LineListed (take k (drop (run .from) input)) (behind run k) run text run₁ text₁ → length text₁ ≡ length text
+    pub rest-long : {k : ℕ} {run₁ : Run} {text₁ : List ℕ} → Known rest ended (run .accepted + run .refused) (Long k) → run .at + (mostText + lastLength) ≤ length text
+        → LineListed (answerTo (take k (drop (run .from) input))) (rowsTo (take k (drop (run .from) input))) (behind run k) run text run₁ text₁ → length text₁ ≡ length text
         → Placed text₁ (run₁ .at) (lastText true (run₁ .accepted) (run₁ .refused)) n text′ → RestPut ended input run text n text′
     rest-long {k} {run₁} {text₁} c h d e p later l =
         let line₀ : List ℕ = take k (drop (run .from) input) in

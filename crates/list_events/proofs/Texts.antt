@@ -52,7 +52,9 @@ move-next b from n i h f =
     ∙ (let c : i + from ≡ from + i = omega arith in ap (λ (m : ℕ). getD b m 0) c)
     ∙ sym (getD-drop from b i 0) in
     let k : i < length (drop from b) = simp length-drop (omega arith) in
-    rw (v, add-one i, take-suc (drop from b) i 0 k, drop-cons b i 0 (omega arith)) (set-at (take i (drop from b)) (getD b i 0) (drop (suc i) b) (getD (drop from b) i 0) i e ∙ sym (append-assoc (take i (drop from b)) (getD (drop from b) i 0 ∷ []) (drop (suc i) b)))
+    rw (v, add-one i, take-suc (drop from b) i 0 k, drop-cons b i 0 (omega arith))
+    (set-at (take i (drop from b)) (getD b i 0) (drop (suc i) b) (getD (drop from b) i 0) i e
+    ∙ sym (append-assoc (take i (drop from b)) (getD (drop from b) i 0 ∷ []) (drop (suc i) b)))
 
 -- characters that were moved to the front stay there, whatever is read behind them
 pub front-kept : (b b₁ part : List ℕ) (from n more k : ℕ) → from + n ≤ length b → b₁ ≡ take n (drop from b) ++ drop n b → length b₁ ≡ length b

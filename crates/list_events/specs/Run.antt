@@ -1,18 +1,21 @@
 -- Where a run of the program stands, and what each of its steps keeps. (The program's functions are private; what they rest on is public in `listing`.)
 -- Assumes nothing.
-use Prim.Native.Nat.{ℕ, _+_, _-_, _≤_}
+use Prim.Native.Nat.{ℕ, _+_, _-_, _*_, _≤_, _<_}
 use mathlib.Core.Path.{_≡_}
 use mathlib.Core.Bool.{Bool, true, false, cond}
 use mathlib.Core.List.{List, [], _++_}
 use lib.Dec.{eqb}
 use lib.ListN.{length, take, drop}
 use Rattle.event.specs.declared.Answer.{Answer}
-use Rattle.event.specs.declared.Answer.the-variants.{Accepted, Refused}
+use Rattle.event.specs.declared.Row.{Row}
 use Rattle.event.specs.Outcome.{defaultOrder, answerOf, given}
+use Rattle.dialects.specs.declared.Dialect.the-variants.{S, F}
+use Rattle.hex_line.specs.Line.{mostWords}
 use Rattle.hex_line.specs.Text.{Placed}
 use Rattle.listing.specs.declared.Next.{Next}
 use Rattle.listing.specs.declared.Next.the-variants.{Line, Long, More, End, Cut}
 use Rattle.listing.specs.Listing.{mostLines, linesOf, lineRows, acceptedIn, refusedIn, listFrom}
+use Rattle.listing.specs.Lengths.{mostRows, mostText}
 use Rattle.listing.specs.Text.{eventText}
 use Rattle.list_events.specs.declared.Run.{Run}
 
@@ -23,9 +26,16 @@ pub record Inside (n m : ℕ) (run : Run) : Type 0 where
   pub text : run .at ≤ m
   pub lines : run .accepted + run .refused ≤ mostLines
 
--- the buffers for a line's words and rows: room for every line that is not too long, and for as many rows as words
+-- a line of so many characters comes next, within what was read, and there is room for its text
+pub record LineInside (count m : ℕ) (run : Run) : Type 0 where
+  pub some : run .from < run .end
+  pub within : count ≤ run .end - run .from
+  pub lines : run .accepted + run .refused < mostLines
+  pub text : run .at + mostText ≤ m
+
+-- the buffers for a line's words, of both widths, and its rows: room for every line that is not too long
 abbrev pub Rooms : (words longwords rows : List ℕ) → Type 0
-Rooms words longwords rows = (length words ≡ 4096) × (length longwords ≡ 2275) × (length rows ≡ 16384)
+Rooms words longwords rows = (mostWords S ≤ length words) × (mostWords F ≤ length longwords) × (4 * mostRows ≤ length rows)
 
 -- the characters that were read and are not listed yet
 abbrev pub restOf : Run → List ℕ → List ℕ
@@ -35,21 +45,20 @@ restOf run input = take (run .end - run .from) (drop (run .from) input)
 abbrev pub behind : Run → ℕ → ℕ
 behind run k = cond (eqb (run .end - run .from) k) (run .end) (run .from + k + 1)
 
-abbrev pub countOf : Answer → ℕ
-countOf (Accepted n) = n
-countOf (Refused n p) = 0
+-- the answer to a line, and its rows
+abbrev pub answerTo : List ℕ → Answer
+answerTo line = answerOf (lineRows defaultOrder line)
 
-abbrev pub acceptedOf : Answer → ℕ
-acceptedOf (Accepted n) = 1
-acceptedOf (Refused n p) = 0
+abbrev pub rowsTo : List ℕ → List Row
+rowsTo line = given (lineRows defaultOrder line)
 
--- a line is listed: its text stands behind what was not written yet, and it is counted
-pub record LineListed (line : List ℕ) (next : ℕ) (run : Run) (text : List ℕ) (run′ : Run) (text′ : List ℕ) : Type 0 where
-  pub placed : Placed text (run .at) (eventText (run .accepted + run .refused + 1) (answerOf (lineRows defaultOrder line)) (given (lineRows defaultOrder line))) (run′ .at) text′
+-- a line of this answer and these rows is listed: its text stands behind what was not written yet, and it is counted
+pub record LineListed (answer : Answer) (rs : List Row) (next : ℕ) (run : Run) (text : List ℕ) (run′ : Run) (text′ : List ℕ) : Type 0 where
+  pub placed : Placed text (run .at) (eventText (run .accepted + run .refused + 1) answer rs) (run′ .at) text′
   pub from : run′ .from ≡ next
   pub end : run′ .end ≡ run .end
-  pub accepted : run′ .accepted ≡ run .accepted + acceptedIn (lineRows defaultOrder line)
-  pub refused : run′ .refused ≡ run .refused + refusedIn (lineRows defaultOrder line)
+  pub accepted : run′ .accepted ≡ run .accepted + acceptedIn answer
+  pub refused : run′ .refused ≡ run .refused + refusedIn answer
 
 -- the text that is not written yet, and what is still to be listed of these characters
 abbrev pub textOf : Run → (text rest : List ℕ) → List ℕ

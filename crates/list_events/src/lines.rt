@@ -4,19 +4,22 @@ use crate::Run;
 use event::Answer;
 use event::default_order;
 use listing::Next;
-ghost use Prim.Native.Nat.{_+_, _-_, _*_, _/_, _≤_, _<_};
+ghost use Prim.Native.Nat.{_+_, _-_, _*_, _≤_, _<_};
+ghost use mathlib.Core.Bool.{true, false};
+ghost use mathlib.Core.List.{[]};
 ghost use mathlib.Core.Path.{_≡_};
 ghost use lib.ListN.{length, take, drop};
+ghost use Rattle.event.specs.Outcome.{accepted};
+ghost use Rattle.event.specs.Rows.{room};
 ghost use Rattle.event.specs.Writing.{rowsIn};
 ghost use Rattle.hex_line.specs.Text.{Placed};
 ghost use Rattle.listing.specs.Input.{nextOf};
 ghost use Rattle.listing.specs.Listing.{mostLines};
-ghost use Rattle.listing.specs.Lengths.{answerLength};
+ghost use Rattle.listing.specs.Lengths.{answerLength, rowLength, lastLength, mostRows, mostText};
 ghost use Rattle.listing.specs.Text.{eventText, lastText};
-ghost use Rattle.list_events.specs.Run.{Inside, Rooms, restOf, behind, countOf, acceptedOf, LineListed, Kept, ends, RestPut};
-ghost use mathlib.Core.Bool.{true};
+ghost use Rattle.list_events.specs.Run.{Inside, LineInside, Rooms, restOf, behind, answerTo, rowsTo, LineListed, Kept, ends, RestPut};
 
-// A line's answer and rows take no more characters than a refusal and 4,096 rows of 36 each.
+// The most characters that a line's answer and rows take: those of a refusal, 47, and of 4,096 rows, 36 each.
 const MOST_TEXT: usize = 147503;
 
 // Lists whole lines while there is room for their text, and says what comes next.
@@ -68,23 +71,48 @@ pub(crate) fn list_line(
     run: Run,
 ) -> Run
     requires { ⌜ Inside (length (now input)) (length (now text)) run ⌝ }
-    requires { ⌜ (run .from < run .end) × (count ≤ run .end - run .from) × (run .accepted + run .refused < mostLines) × (run .at + 147503 ≤ length (now text)) ⌝ }
+    requires { ⌜ LineInside count (length (now text)) run ⌝ }
     requires { ⌜ Rooms (now words) (now longwords) (now rows) ⌝ }
     ensures { λ r. ⌜ Inside (length (now (input .entry))) (length (now (text .entry))) r ⌝ }
-    ensures { λ r. ⌜ LineListed (take count (drop (run .from) (now (input .entry)))) (behind run count) run (now (text .entry)) r (now (text .exit)) ⌝ }
+    ensures { λ r. ⌜ LineListed (answerTo (take count (drop (run .from) (now (input .entry))))) (rowsTo (take count (drop (run .from) (now (input .entry))))) (behind run count) run (now (text .entry)) r (now (text .exit)) ⌝ }
 {
     let from = run.from;
     let stop = from + count;
     let answer = listing::line_rows(&input[from..stop], default_order(), words, longwords, rows);
-    let elements = count_of(answer) * 4;
-    let at = put_event(text, run, answer, &rows[..elements]);
-    let accepted = accepted_of(answer);
+    let Answer::Accepted(found) = answer else {
+        return refused_line(text, run, count, answer);
+    };
+    let elements = found * 4;
+    accepted_line(text, run, count, answer, &rows[..elements])
+}
+
+// Lists a refused line of `count` characters: its answer alone.
+fn refused_line(text: &mut [u8], run: Run, count: usize, answer: Answer) -> Run
+    requires { ⌜ LineInside count (length (now text)) run ⌝ }
+    requires { ⌜ accepted answer ≡ false ⌝ }
+    ensures { λ r. ⌜ LineListed answer [] (behind run count) run (now (text .entry)) r (now (text .exit)) ⌝ }
+{
     Run {
         from: behind_line(run, count),
         end: run.end,
-        at,
-        accepted: run.accepted + accepted,
-        refused: run.refused + (1 - accepted),
+        at: put_event(text, run, answer, &[]),
+        accepted: run.accepted,
+        refused: run.refused + 1,
+    }
+}
+
+// Lists an accepted line of `count` characters: its answer and its rows.
+fn accepted_line(text: &mut [u8], run: Run, count: usize, answer: Answer, rows: &[u32]) -> Run
+    requires { ⌜ LineInside count (length (now text)) run ⌝ }
+    requires { ⌜ (accepted answer ≡ true) × (length (now rows) ≤ 4 * mostRows) ⌝ }
+    ensures { λ r. ⌜ LineListed answer (rowsIn (now (rows .entry))) (behind run count) run (now (text .entry)) r (now (text .exit)) ⌝ }
+{
+    Run {
+        from: behind_line(run, count),
+        end: run.end,
+        at: put_event(text, run, answer, rows),
+        accepted: run.accepted + 1,
+        refused: run.refused,
     }
 }
 
@@ -99,30 +127,10 @@ fn behind_line(run: Run, count: usize) -> usize
     run.from + count + 1
 }
 
-// The rows of an answer.
-fn count_of(answer: Answer) -> usize
-    ensures { λ r. ⌜ r ≡ countOf answer ⌝ }
-{
-    let Answer::Accepted(count) = answer else {
-        return 0;
-    };
-    count
-}
-
-// 1 for an accepted line, 0 for a refused one.
-fn accepted_of(answer: Answer) -> u64
-    ensures { λ r. ⌜ (r ≡ acceptedOf answer) × (r ≤ 1) ⌝ }
-{
-    let Answer::Accepted(_) = answer else {
-        return 0;
-    };
-    1
-}
-
 // Puts the answer and the rows behind the text that is not written yet, and answers where it ends.
 fn put_event(text: &mut [u8], run: Run, answer: Answer, rows: &[u32]) -> usize
     requires { ⌜ run .accepted + run .refused < mostLines ⌝ }
-    requires { ⌜ run .at + (answerLength answer + 36 * (length (now rows) / 4)) ≤ length (now text) ⌝ }
+    requires { ⌜ run .at + (answerLength answer + rowLength * room (length (now rows))) ≤ length (now text) ⌝ }
     ensures { λ r. ⌜ Placed (now (text .entry)) (run .at) (eventText (run .accepted + run .refused + 1) answer (rowsIn (now (rows .entry)))) r (now (text .exit)) ⌝ }
 {
     let at = run.at;
@@ -157,7 +165,7 @@ pub(crate) fn put_rest(
     requires { ⌜ Inside (length (now input)) (length (now text)) run ⌝ }
     requires { ⌜ (next ≡ nextOf (restOf run (now input)) ended (run .accepted + run .refused)) × (ends next ≡ true) ⌝ }
     requires { ⌜ Rooms (now words) (now longwords) (now rows) ⌝ }
-    requires { ⌜ run .at + 147540 ≤ length (now text) ⌝ }
+    requires { ⌜ run .at + (mostText + lastLength) ≤ length (now text) ⌝ }
     ensures { λ r. ⌜ r ≤ length (now (text .entry)) ⌝ }
     ensures { λ r. ⌜ RestPut ended (now (input .entry)) run (now (text .entry)) r (now (text .exit)) ⌝ }
 {
@@ -174,8 +182,8 @@ pub(crate) fn put_rest(
 }
 
 fn put_last(text: &mut [u8], run: Run, cut: bool) -> usize
-    requires { ⌜ run .at + 37 ≤ length (now text) ⌝ }
-    ensures { λ r. ⌜ r ≡ run .at + 37 ⌝ }
+    requires { ⌜ run .at + lastLength ≤ length (now text) ⌝ }
+    ensures { λ r. ⌜ r ≡ run .at + lastLength ⌝ }
     ensures { λ r. ⌜ Placed (now (text .entry)) (run .at) (lastText cut (run .accepted) (run .refused)) r (now (text .exit)) ⌝ }
 {
     let at = run.at;

@@ -4,12 +4,24 @@
 mod lines;
 mod streams;
 
+use hex_line::LONGEST_LINE;
 use listing::Next;
 use streams::turn;
-ghost use Prim.Native.Nat.{_<_, _≤_};
+ghost use Prim.Native.Nat.{_+_, _<_, _≤_};
 ghost use lib.ListN.{length};
 ghost use Rattle.hex_line.specs.Line.{longestLine};
+ghost use Rattle.listing.specs.Lengths.{mostText, lastLength};
 ghost use Rattle.list_events.specs.Run.{Rooms};
+
+// The characters of the input, and of the text, that are held at a time.
+const BUFFER: usize = 262144;
+
+// The most words of a line that is not too long, and the elements of as many rows.
+const MOST_WORDS: usize = (LONGEST_LINE - 1) / 5;
+
+const MOST_LONGWORDS: usize = (LONGEST_LINE - 1) / 9;
+
+const MOST_ELEMENTS: usize = 4 * MOST_WORDS;
 
 // Where a run stands: input[from..end] was read and is not listed yet, text[..at] is not written yet, and so many lines were listed.
 struct Run {
@@ -41,7 +53,7 @@ fn list(
     text: &mut [u8],
 )
     requires { ⌜ Rooms (now words) (now longwords) (now rows) ⌝ }
-    requires { ⌜ (longestLine < length (now input)) × (147540 ≤ length (now text)) ⌝ }
+    requires { ⌜ (longestLine < length (now input)) × (mostText + lastLength ≤ length (now text)) ⌝ }
 {
     let mut state = Turn {
         run: Run {
@@ -62,10 +74,10 @@ fn list(
 }
 
 fn main() {
-    let mut input = [0u8; 262144];
-    let mut words = [0u16; 4096];
-    let mut longwords = [0u32; 2275];
-    let mut rows = [0u32; 16384];
-    let mut text = [0u8; 262144];
+    let mut input = [0u8; BUFFER];
+    let mut words = [0u16; MOST_WORDS];
+    let mut longwords = [0u32; MOST_LONGWORDS];
+    let mut rows = [0u32; MOST_ELEMENTS];
+    let mut text = [0u8; BUFFER];
     list(&mut input, &mut words, &mut longwords, &mut rows, &mut text);
 }

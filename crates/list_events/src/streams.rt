@@ -16,6 +16,7 @@ ghost use lib.IntN.{pos};
 ghost use lib.ListN.{length, take, drop};
 ghost use lib.Signed.{leZ};
 ghost use Rattle.io.specs.Counts.{clamped};
+ghost use Rattle.listing.specs.Lengths.{mostText, lastLength};
 ghost use Rattle.list_events.specs.Run.{Inside, Rooms, restOf};
 
 // Lists what was read, writes what is listed, and then reads more, or ends.
@@ -29,7 +30,7 @@ pub(crate) fn turn(
 ) -> Turn
     requires { ⌜ Inside (length (now input)) (length (now text)) (state .run) ⌝ }
     requires { ⌜ Rooms (now words) (now longwords) (now rows) ⌝ }
-    requires { ⌜ 147540 ≤ length (now text) ⌝ }
+    requires { ⌜ mostText + lastLength ≤ length (now text) ⌝ }
     ensures { λ r. ⌜ Inside (length (now (input .entry))) (length (now (text .entry))) (r .run) ⌝ }
 {
     let listed = list_lines(input, state.ended, words, longwords, rows, text, state.run);

@@ -1,9 +1,9 @@
 -- Document 01's own listing, and others, computed.
 -- Assumes nothing.
 use mathlib.Core.Path.{refl}
-use Rattle.hex_line.specs.Text.{character, hexOf}
+use Rattle.hex_line.specs.Text.{character, hexOf, field}
 use Rattle.hex_line.specs.Line.{isDigit, digitOf, allDigits, allGroups, wellFormed, valueOf, firsts}
-use Rattle.listing.specs.Text.{field, acceptedText, refusedText, rowText, eventText, lastText}
+use Rattle.listing.specs.Text.{acceptedText, refusedText, rowText, eventText, lastText}
 use Rattle.listing.specs.Listing.{listFrom}
 use Rattle.listing.specs.Example.{Example, Counted, Stops}
 

@@ -1,11 +1,9 @@
 -- The rows of a line by two calls, over any dialect: from the contracts of the calls.
 -- Assumes nothing.
-use Prim.Native.Nat.{ℕ, _≤_}
+use Prim.Native.Nat.{ℕ, min}
 use native.Mathlib.Omega.{arith}
-use mathlib.Core.Path.{_≡_, refl, sym, ap, _∙_}
-use mathlib.Core.Bool.{false}
+use mathlib.Core.Path.{_≡_, refl, sym, _∙_}
 use mathlib.Core.List.{List, [], _∷_}
-use lib.Dec.{eqb}
 use lib.ListN.{length, getD, take, drop}
 use lib.Seq.{take-at}
 use Rattle.event.specs.declared.Answer.{Answer}
@@ -16,45 +14,41 @@ use Rattle.event.specs.Outcome.{Outcome, answerOf, given, overlaid}
 use Rattle.event.specs.Rows.{flat, room}
 use Rattle.event.proofs.Answers.{Given, refused-by, given-by}
 use Rattle.event.proofs.Stores.{Gives}
-use Rattle.event.proofs.Whole.{limited-iff}
-use Rattle.dialects.specs.Dialects.{Dialect, S, F, readingInto}
-use Rattle.hex_line.specs.Line.{letter, lineWords, lineInto}
-use Rattle.hex_line.proofs.LineLaws.{formed-not}
-use Rattle.listing.specs.Listing.{rowsInto}
+use Rattle.dialects.specs.declared.Dialect.{Dialect}
+use Rattle.dialects.specs.Dialects.{readingInto, ofWidth, over16, over32}
+use Rattle.dialects.proofs.Widths.{first-given}
+use Rattle.hex_line.specs.Line.{lineInto}
+use Rattle.listing.specs.Listing.{andThen}
 
--- a line with another letter than the dialect's has no words in it
-pub other-letter : (d : Dialect) (n : ℕ) (line : List ℕ) → eqb (getD line 0 0) (letter d) ≡ false → given (lineInto d n line) ≡ []
-other-letter S n line e = rw (formed-not 83 4 line e)
-other-letter F n line e = rw (formed-not 70 8 line e)
-
-pub letter-none : (line : List ℕ) → length line ≡ 0 → eqb (getD line 0 0) (letter F) ≡ false
+-- an empty line begins with no letter
+pub letter-none : (line : List ℕ) → length line ≡ 0 → getD line 0 0 ≡ 0
 letter-none [] e = refl
 letter-none (x ∷ xs) e = absurd (omega arith)
 
-pub letter-f : (line : List ℕ) → getD line 0 0 ≡ letter F → eqb (getD line 0 0) (letter S) ≡ false
-letter-f line e = rw e
+module _ (d : Dialect) (o : StampOrder) (line words longwords rows : List ℕ) where
+  abbrev wordsGiven : Outcome ℕ
+  wordsGiven = lineInto d (length (ofWidth d words longwords)) line
 
-module _ (d : Dialect) (o : StampOrder) (line words rows : List ℕ) where
-  abbrev lineWordsGiven : Outcome ℕ
-  lineWordsGiven = lineInto d (length words) line
+  abbrev reads : List ℕ → Outcome Row
+  reads = readingInto d (room (length rows)) o
 
   abbrev RowsGiven : Answer → List ℕ → Type 0
-  RowsGiven = Gives flat rows (rowsInto d (length words) (room (length rows)) o line)
+  RowsGiven = Gives flat rows (andThen reads wordsGiven)
 
-  pub not-words : {n p : ℕ} → Refused n p ≡ answerOf lineWordsGiven → RowsGiven (Refused n p) rows
-  not-words e = let q = refused-by lineWordsGiven e in record { answered = rw q; written = rw q }
+  pub not-words : {a : Answer} {n p : ℕ} → a ≡ answerOf wordsGiven → a ≡ Refused n p → RowsGiven a rows
+  not-words e a = let q = refused-by wordsGiven (sym a ∙ e) in record { answered = a ∙ rw q; written = rw q }
 
-  pub words-inside : {k : ℕ} → Accepted k ≡ answerOf lineWordsGiven → k ≤ length words
-  words-inside e =
-      let g = given-by lineWordsGiven e in
-      omega (arith, limited-iff 24 (length words) (lineWords d line) (g .items) .0 (g .outcome) .1, g .counted)
-
-  pub words-read : {k : ℕ} {words′ part rows′ : List ℕ} {r : Answer} → Accepted k ≡ answerOf lineWordsGiven → words′ ≡ overlaid (given lineWordsGiven) words → part ≡ take k words′
-      → r ≡ answerOf (readingInto d (room (length rows)) o part) → rows′ ≡ overlaid (flat (given (readingInto d (room (length rows)) o part))) rows → RowsGiven r rows′
-  words-read {k} {words′} {part} {rows′} {r} e a p q s = go (given-by lineWordsGiven e)
+  pub words-read : {k short long : ℕ} {words′ longwords′ rows′ : List ℕ} {a r : Answer} → a ≡ answerOf wordsGiven → a ≡ Accepted k
+      → words′ ≡ over16 d (given wordsGiven) words → longwords′ ≡ over32 d (given wordsGiven) longwords
+      → short ≡ min k (length words′) → long ≡ min k (length longwords′)
+      → (r ≡ answerOf (reads (ofWidth d (take short words′) (take long longwords′)))) × (rows′ ≡ overlaid (flat (given (reads (ofWidth d (take short words′) (take long longwords′))))) rows)
+      → RowsGiven r rows′
+  words-read {k} {short} {long} {words′} {longwords′} {rows′} {a} {r} e c w l s t q = go (given-by wordsGiven (sym c ∙ e))
     where
-      go : Given lineWordsGiven k → RowsGiven r rows′
+      go : Given wordsGiven k → RowsGiven r rows′
       go g =
-          let f : part ≡ g .items = p ∙ ap (take k) (a ∙ rw (g .outcome)) ∙ take-at (g .items) (drop (length (g .items)) words) k (sym (g .counted)) in
-          let w : readingInto d (room (length rows)) o part ≡ readingInto d (room (length rows)) o (g .items) = ap (readingInto d (room (length rows)) o) f in
-          rw (g .outcome) (record { answered = q ∙ ap answerOf w; written = s ∙ ap (λ (x : Outcome Row). overlaid (flat (given x)) rows) w })
+          let buffer = ofWidth d words longwords in
+          let front : take k (overlaid (given wordsGiven) buffer) ≡ g .items = rw (g .outcome) (take-at (g .items) (drop (length (g .items)) buffer) k (sym (g .counted))) in
+          let f : ofWidth d (take short words′) (take long longwords′) ≡ g .items = first-given d k (given wordsGiven) words longwords s t w l ∙ front in
+          let p = rw f at q in
+          rw (g .outcome) (record { answered = p .0; written = p .1 })

@@ -11,10 +11,10 @@ use lib.ListN.{length, take, drop}
 use borrow.Author.Tests.{le-leb, lt-leb, lt-ltb, le-ltb}
 use Rattle.event.specs.declared.StampOrder.{StampOrder}
 use Rattle.event.specs.Outcome.{refused, answerOf, given}
-use Rattle.dialects.specs.Dialects.{Dialect}
+use Rattle.dialects.specs.declared.Dialect.{Dialect}
 use Rattle.hex_line.specs.Line.{letter, digits, longestLine, lineWords}
 use Rattle.hex_line.proofs.LineLaws.{formed-too-long}
-use Rattle.listing.specs.Listing.{dialectOf, linesOf, lineRows, mostLines, acceptedIn, refusedIn, listFrom}
+use Rattle.listing.specs.Listing.{lineDialect, linesOf, lineRows, mostLines, acceptedIn, refusedIn, listFrom}
 use Rattle.listing.specs.Input.{firstLine}
 use Rattle.listing.specs.Text.{eventText, lastText}
 
@@ -69,14 +69,14 @@ module _ (o : StampOrder) (a r : ℕ) (line : List ℕ) (lines : List (List ℕ)
   -- a line that is not too long, with others before it that are not too many
   pub list-line : a + r < mostLines → length line ≤ longestLine
       → listFrom o a r (line ∷ lines)
-      ≡ eventText (a + r + 1) (answerOf (lineRows o line)) (given (lineRows o line)) ++ listFrom o (a + acceptedIn (lineRows o line)) (r + refusedIn (lineRows o line)) lines
+      ≡ eventText (a + r + 1) (answerOf (lineRows o line)) (given (lineRows o line)) ++ listFrom o (a + acceptedIn (answerOf (lineRows o line))) (r + refusedIn (answerOf (lineRows o line))) lines
   unfolding listFrom
   list-line h k = rw (lt-leb mostLines (a + r) h, le-ltb longestLine (length line) k)
 
   -- one that is too long
   pub list-long : a + r < mostLines → longestLine < length line
       → listFrom o a r (line ∷ lines)
-      ≡ eventText (a + r + 1) (answerOf (lineRows o line)) (given (lineRows o line)) ++ lastText true (a + acceptedIn (lineRows o line)) (r + refusedIn (lineRows o line))
+      ≡ eventText (a + r + 1) (answerOf (lineRows o line)) (given (lineRows o line)) ++ lastText true (a + acceptedIn (answerOf (lineRows o line))) (r + refusedIn (answerOf (lineRows o line)))
   unfolding listFrom
   list-long h k = rw (lt-leb mostLines (a + r) h, lt-ltb longestLine (length line) k)
 
@@ -94,4 +94,4 @@ words-long : (d : Dialect) (line : List ℕ) → longestLine < length line → l
 words-long d line h = rw (formed-too-long (letter d) (digits d) line h)
 
 pub long-refused : (o : StampOrder) (line : List ℕ) → longestLine < length line → lineRows o line ≡ refused 30 0
-long-refused o line h = rw (words-long (dialectOf line) line h)
+long-refused o line h = rw (words-long (lineDialect line) line h)

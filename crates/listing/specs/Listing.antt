@@ -5,16 +5,19 @@ use mathlib.Core.Bool.{true, false, cond}
 use mathlib.Core.List.{List, [], _∷_, _++_}
 use lib.Dec.{eqb, leb, ltb}
 use lib.ListN.{length, getD}
+use Rattle.event.specs.declared.Answer.{Answer}
 use Rattle.event.specs.declared.Row.{Row}
 use Rattle.event.specs.declared.StampOrder.{StampOrder}
-use Rattle.event.specs.Outcome.{Outcome, done, refused, answerOf, given}
-use Rattle.dialects.specs.Dialects.{Dialect, S, F, reading, readingInto}
+use Rattle.event.specs.Outcome.{Outcome, done, refused, answerOf, accepted, given}
+use Rattle.dialects.specs.declared.Dialect.{Dialect}
+use Rattle.dialects.specs.declared.Dialect.the-variants.{S, F}
+use Rattle.dialects.specs.Dialects.{reading, readingInto}
 use Rattle.hex_line.specs.Line.{letter, longestLine, lineWords, lineInto}
 use Rattle.listing.specs.Text.{eventText, lastText}
 
 -- a line with the letter of F is of that dialect, and any other is read as one of S, which refuses another letter
-abbrev pub dialectOf : List ℕ → Dialect
-dialectOf line = cond (eqb (getD line 0 0) (letter F)) F S
+abbrev pub lineDialect : List ℕ → Dialect
+lineDialect line = cond (eqb (getD line 0 0) (letter F)) F S
 
 -- what is accepted goes on; a refusal stays
 abbrev pub andThen : {A B : Type 0} → (List A → Outcome B) → Outcome A → Outcome B
@@ -23,19 +26,11 @@ andThen f (refused n k) = refused n k
 
 -- the rows of a line, with room enough
 abbrev pub lineRows : StampOrder → List ℕ → Outcome Row
-lineRows o line = andThen (reading (dialectOf line) o) (lineWords (dialectOf line) line)
+lineRows o line = andThen (reading (lineDialect line) o) (lineWords (lineDialect line) line)
 
 -- the same with room for so many words and so many rows: 24 and 12
-abbrev pub rowsInto : (d : Dialect) → (wordRoom rowRoom : ℕ) → StampOrder → List ℕ → Outcome Row
-rowsInto d wordRoom rowRoom o line = andThen (readingInto d rowRoom o) (lineInto d wordRoom line)
-
--- each dialect's words have a room of their own
-abbrev pub wordRooms : (words longwords : ℕ) → Dialect → ℕ
-wordRooms words longwords S = words
-wordRooms words longwords F = longwords
-
-abbrev pub lineRowsInto : (wordRoom : Dialect → ℕ) → (rowRoom : ℕ) → StampOrder → List ℕ → Outcome Row
-lineRowsInto wordRoom rowRoom o line = rowsInto (dialectOf line) (wordRoom (dialectOf line)) rowRoom o line
+abbrev pub lineRowsInto : (wordRoom rowRoom : ℕ) → StampOrder → List ℕ → Outcome Row
+lineRowsInto wordRoom rowRoom o line = andThen (readingInto (lineDialect line) rowRoom o) (lineInto (lineDialect line) wordRoom line)
 
 -- a character before the first of some lines
 abbrev prepended : ℕ → List (List ℕ) → List (List ℕ)
@@ -51,25 +46,24 @@ linesOf (c ∷ s) = cond (eqb c 10) ([] ∷ linesOf s) (prepended c (linesOf s))
 abbrev pub mostLines : ℕ
 mostLines = 1000000
 
--- 1 for the outcomes that are counted
-abbrev pub acceptedIn : {A : Type 0} → Outcome A → ℕ
-acceptedIn (done xs) = 1
-acceptedIn (refused n k) = 0
+-- what a line of this answer adds to the accepted lines, and to the refused
+abbrev pub acceptedIn : Answer → ℕ
+acceptedIn a = cond (accepted a) 1 0
 
-abbrev pub refusedIn : {A : Type 0} → Outcome A → ℕ
-refusedIn (done xs) = 0
-refusedIn (refused n k) = 1
+abbrev pub refusedIn : Answer → ℕ
+refusedIn a = cond (accepted a) 0 1
 
 -- the listing of these lines, after so many were accepted and refused
 unfoldable pub listFrom : StampOrder → (accepted refused : ℕ) → List (List ℕ) → List ℕ
 listFrom o a r [] = lastText false a r
 listFrom o a r (line ∷ lines) =
+    let answer = answerOf (lineRows o line) in
     cond (leb mostLines (a + r))
     (lastText true a r)
-    (eventText (a + r + 1) (answerOf (lineRows o line)) (given (lineRows o line))
+    (eventText (a + r + 1) answer (given (lineRows o line))
     ++ cond (ltb longestLine (length line))
-    (lastText true (a + acceptedIn (lineRows o line)) (r + refusedIn (lineRows o line)))
-    (listFrom o (a + acceptedIn (lineRows o line)) (r + refusedIn (lineRows o line)) lines))
+    (lastText true (a + acceptedIn answer) (r + refusedIn answer))
+    (listFrom o (a + acceptedIn answer) (r + refusedIn answer) lines))
 
 -- the listing of an input
 abbrev pub listing : StampOrder → List ℕ → List ℕ

@@ -6,14 +6,10 @@ use mathlib.Core.List.{List, [], _++_}
 use lib.Dec.{leb}
 use lib.ListN.{length}
 use Rattle.event.specs.declared.Answer.{Answer}
-use Rattle.event.specs.declared.Answer.the-variants.{Accepted, Refused}
 use Rattle.event.specs.declared.Row.{Row}
+use Rattle.event.specs.Outcome.{accepted, refusalNumber, countOrPlace}
 use Rattle.event.specs.Parser.{each}
-use Rattle.hex_line.specs.Text.{text, hexOf}
-
--- a number behind its label
-unfoldable pub field : List ℕ → ℕ → List ℕ
-field label n = label ++ hexOf 8 n
+use Rattle.hex_line.specs.Text.{text, hexOf, field}
 
 -- line number k accepted, with its number of rows
 unfoldable pub acceptedText : ℕ → ℕ → List ℕ
@@ -24,8 +20,7 @@ unfoldable pub refusedText : ℕ → ℕ → ℕ → List ℕ
 refusedText k number place = field (text "event ") k ++ field (text " refused ") number ++ field (text " place ") place ++ text "\n"
 
 abbrev pub answerText : ℕ → Answer → List ℕ
-answerText k (Accepted n) = acceptedText k n
-answerText k (Refused n p) = refusedText k n p
+answerText k a = cond (accepted a) (acceptedText k (countOrPlace a)) (refusedText k (refusalNumber a) (countOrPlace a))
 
 unfoldable pub rowText : Row → List ℕ
 rowText r = hexOf 8 (r .kind) ++ field (text " ") (r .unit) ++ field (text " ") (r .channel) ++ field (text " ") (r .datum) ++ text "\n"

@@ -1,15 +1,17 @@
 // The rows of a line: its words, and their reading.
+use dialects::Dialect;
 use event::Answer;
 use event::StampOrder;
+use event::words::part_start;
 ghost use mathlib.Core.Path.{_≡_};
 ghost use lib.ListN.{length};
-ghost use Rattle.event.specs.Outcome.{answerOf, given, overlaid, defaultOrder};
+ghost use Rattle.event.specs.Outcome.{answerOf, given, overlaid};
 ghost use Rattle.event.specs.Rows.{flat, room};
-ghost use Rattle.dialects.specs.Dialects.{S, F};
+ghost use Rattle.dialects.specs.Dialects.{ofWidth, over16, over32};
 ghost use Rattle.hex_line.specs.Line.{lineInto};
-ghost use Rattle.listing.specs.Listing.{wordRooms, lineRowsInto, rowsInto};
+ghost use Rattle.listing.specs.Listing.{lineDialect, lineRowsInto};
 
-// Reads a line into `rows`, by way of its words in `words` (dialect S) or `longwords` (dialect F).
+// Reads a line into `rows`, by way of its words in the buffer of their width.
 pub fn line_rows(
     line: &[u8],
     order: StampOrder,
@@ -17,40 +19,30 @@ pub fn line_rows(
     longwords: &mut [u32],
     rows: &mut [u32],
 ) -> Answer
-    ensures answer { λ r. ⌜ r ≡ answerOf (lineRowsInto (wordRooms (length (now (words .entry))) (length (now (longwords .entry)))) (room (length (now (rows .entry)))) order (now (line .entry))) ⌝ }
-    ensures rows { λ _. ⌜ now (rows .exit) ≡ overlaid (flat (given (lineRowsInto (wordRooms (length (now (words .entry))) (length (now (longwords .entry)))) (room (length (now (rows .entry)))) order (now (line .entry))))) (now (rows .entry)) ⌝ }
-    ensures words { λ _. ⌜ now (words .exit) ≡ overlaid (given (lineInto S (length (now (words .entry))) (now (line .entry)))) (now (words .entry)) ⌝ }
-    ensures longwords { λ _. ⌜ now (longwords .exit) ≡ overlaid (given (lineInto F (length (now (longwords .entry))) (now (line .entry)))) (now (longwords .entry)) ⌝ }
+    ensures answer { λ r. ⌜ r ≡ answerOf (lineRowsInto (length (ofWidth (lineDialect (now (line .entry))) (now (words .entry)) (now (longwords .entry)))) (room (length (now (rows .entry)))) order (now (line .entry))) ⌝ }
+    ensures rows { λ _. ⌜ now (rows .exit) ≡ overlaid (flat (given (lineRowsInto (length (ofWidth (lineDialect (now (line .entry))) (now (words .entry)) (now (longwords .entry)))) (room (length (now (rows .entry)))) order (now (line .entry))))) (now (rows .entry)) ⌝ }
+    ensures words { λ _. ⌜ now (words .exit) ≡ over16 (lineDialect (now (line .entry))) (given (lineInto (lineDialect (now (line .entry))) (length (ofWidth (lineDialect (now (line .entry))) (now (words .entry)) (now (longwords .entry)))) (now (line .entry)))) (now (words .entry)) ⌝ }
+    ensures longwords { λ _. ⌜ now (longwords .exit) ≡ over32 (lineDialect (now (line .entry))) (given (lineInto (lineDialect (now (line .entry))) (length (ofWidth (lineDialect (now (line .entry))) (now (words .entry)) (now (longwords .entry)))) (now (line .entry)))) (now (longwords .entry)) ⌝ }
+{
+    let dialect = dialect_of_line(line);
+    let answer = hex_line::words(dialect, line, words, longwords);
+    let Answer::Accepted(count) = answer else {
+        return answer;
+    };
+    let short = part_start(count, words.len());
+    let long = part_start(count, longwords.len());
+    any_dialect::read(dialect, &words[..short], &longwords[..long], order, rows)
+}
+
+// The dialect of a line by its letter.
+fn dialect_of_line(line: &[u8]) -> Dialect
+    ensures { λ r. ⌜ r ≡ lineDialect (now (line .entry)) ⌝ }
 {
     if line.len() == 0 {
-        return s_rows(line, order, words, rows);
+        return Dialect::S;
     }
     if line[0] == b'F' {
-        return f_rows(line, longwords, rows);
+        return Dialect::F;
     }
-    s_rows(line, order, words, rows)
-}
-
-fn s_rows(line: &[u8], order: StampOrder, words: &mut [u16], rows: &mut [u32]) -> Answer
-    ensures answer { λ r. ⌜ r ≡ answerOf (rowsInto S (length (now (words .entry))) (room (length (now (rows .entry)))) order (now (line .entry))) ⌝ }
-    ensures rows { λ _. ⌜ now (rows .exit) ≡ overlaid (flat (given (rowsInto S (length (now (words .entry))) (room (length (now (rows .entry)))) order (now (line .entry))))) (now (rows .entry)) ⌝ }
-    ensures words { λ _. ⌜ now (words .exit) ≡ overlaid (given (lineInto S (length (now (words .entry))) (now (line .entry)))) (now (words .entry)) ⌝ }
-{
-    let answer = hex_line::s_words(line, words);
-    let Answer::Accepted(count) = answer else {
-        return answer;
-    };
-    s800::read(&words[..count], order, rows)
-}
-
-fn f_rows(line: &[u8], words: &mut [u32], rows: &mut [u32]) -> Answer
-    ensures answer { λ r. ⌜ r ≡ answerOf (rowsInto F (length (now (words .entry))) (room (length (now (rows .entry)))) defaultOrder (now (line .entry))) ⌝ }
-    ensures rows { λ _. ⌜ now (rows .exit) ≡ overlaid (flat (given (rowsInto F (length (now (words .entry))) (room (length (now (rows .entry)))) defaultOrder (now (line .entry))))) (now (rows .entry)) ⌝ }
-    ensures words { λ _. ⌜ now (words .exit) ≡ overlaid (given (lineInto F (length (now (words .entry))) (now (line .entry)))) (now (words .entry)) ⌝ }
-{
-    let answer = hex_line::f_words(line, words);
-    let Answer::Accepted(count) = answer else {
-        return answer;
-    };
-    frs::read(&words[..count], rows)
+    Dialect::S
 }

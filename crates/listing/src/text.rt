@@ -2,16 +2,23 @@
 // all of it, and its number of characters answered; else nothing is put, and 0 answered.
 use event::Answer;
 use event::Row;
+use event::accepts;
+use event::count_or_place;
+use event::refusal_number;
 use event::rows::row_at;
-ghost use Prim.Native.Nat.{_+_, _*_, _/_, _≤_};
+use hex_line::put_field;
+use hex_line::put_number;
+use hex_line::put_text;
+ghost use Prim.Native.Nat.{_+_, _*_, _≤_};
 ghost use mathlib.Core.Path.{_≡_};
 ghost use lib.ListN.{length};
 ghost use Rattle.event.specs.Outcome.{overlaid};
 ghost use Rattle.event.specs.Parser.{each};
+ghost use Rattle.event.specs.Rows.{room};
 ghost use Rattle.event.specs.Writing.{rowsIn};
-ghost use Rattle.hex_line.specs.Text.{hexOf, Placed};
-ghost use Rattle.listing.specs.Text.{field, acceptedText, refusedText, answerText, rowText, eventText, lastLabel, lastText, fitted};
-ghost use Rattle.listing.specs.Lengths.{answerLength};
+ghost use Rattle.hex_line.specs.Text.{field, Placed};
+ghost use Rattle.listing.specs.Text.{acceptedText, refusedText, answerText, rowText, eventText, lastLabel, lastText, fitted};
+ghost use Rattle.listing.specs.Lengths.{acceptedLength, refusedLength, answerLength, rowLength, lastLength};
 
 // The characters of the answer for an accepted line and for a refused one, of a row, and of the last line.
 const ACCEPTED: usize = 29;
@@ -52,8 +59,7 @@ pub fn put_last(cut: bool, accepted: u64, refused: u64, text: &mut [u8]) -> usiz
 }
 
 fn put_events(text: &mut [u8], cut: bool, accepted: u64) -> usize
-    requires { ⌜ 37 ≤ length (now text) ⌝ }
-    ensures { λ r. ⌜ r ≡ 19 ⌝ }
+    requires { ⌜ lastLength ≤ length (now text) ⌝ }
     ensures { λ r. ⌜ Placed (now (text .entry)) 0 (field (lastLabel cut) accepted) r (now (text .exit)) ⌝ }
 {
     if cut {
@@ -66,44 +72,44 @@ fn put_events(text: &mut [u8], cut: bool, accepted: u64) -> usize
 fn answer_length(answer: Answer) -> usize
     ensures { λ r. ⌜ r ≡ answerLength answer ⌝ }
 {
-    match answer {
-        Answer::Accepted(_) => ACCEPTED,
-        Answer::Refused { .. } => REFUSED,
+    if accepts(answer) {
+        return ACCEPTED;
     }
+    REFUSED
 }
 
 fn put_answer(text: &mut [u8], line: u64, answer: Answer) -> usize
     requires { ⌜ answerLength answer ≤ length (now text) ⌝ }
     ensures { λ r. ⌜ Placed (now (text .entry)) 0 (answerText line answer) r (now (text .exit)) ⌝ }
 {
-    match answer {
-        Answer::Accepted(count) => put_accepted(text, line, count as u64),
-        Answer::Refused { number, place } => put_refused(text, line, number as u64, place as u64),
-    }
+    let Answer::Accepted(count) = answer else {
+        return put_refused(text, line, refusal_number(answer), count_or_place(answer));
+    };
+    put_accepted(text, line, count)
 }
 
-fn put_accepted(text: &mut [u8], line: u64, count: u64) -> usize
-    requires { ⌜ 29 ≤ length (now text) ⌝ }
+fn put_accepted(text: &mut [u8], line: u64, count: usize) -> usize
+    requires { ⌜ acceptedLength ≤ length (now text) ⌝ }
     ensures { λ r. ⌜ Placed (now (text .entry)) 0 (acceptedText line count) r (now (text .exit)) ⌝ }
 {
     let middle = put_field(text, 0, b"event ", line);
-    let end = put_field(text, middle, b" rows ", count);
+    let end = put_field(text, middle, b" rows ", count as u64);
     put_text(text, end, b"\n")
 }
 
-fn put_refused(text: &mut [u8], line: u64, number: u64, place: u64) -> usize
-    requires { ⌜ 47 ≤ length (now text) ⌝ }
+fn put_refused(text: &mut [u8], line: u64, number: u32, place: usize) -> usize
+    requires { ⌜ refusedLength ≤ length (now text) ⌝ }
     ensures { λ r. ⌜ Placed (now (text .entry)) 0 (refusedText line number place) r (now (text .exit)) ⌝ }
 {
     let middle = put_field(text, 0, b"event ", line);
-    let more = put_field(text, middle, b" refused ", number);
-    let end = put_field(text, more, b" place ", place);
+    let more = put_field(text, middle, b" refused ", number as u64);
+    let end = put_field(text, more, b" place ", place as u64);
     put_text(text, end, b"\n")
 }
 
 // Puts the rows of a buffer behind the first `at` characters.
 fn put_rows(text: &mut [u8], at: usize, rows: &[u32]) -> usize
-    requires { ⌜ at + 36 * (length (now rows) / 4) ≤ length (now text) ⌝ }
+    requires { ⌜ at + rowLength * room (length (now rows)) ≤ length (now text) ⌝ }
     ensures { λ r. ⌜ Placed (now (text .entry)) at (each rowText (rowsIn (now (rows .entry)))) r (now (text .exit)) ⌝ }
 {
     let mut end = at;
@@ -116,8 +122,7 @@ fn put_rows(text: &mut [u8], at: usize, rows: &[u32]) -> usize
 }
 
 fn put_row(text: &mut [u8], at: usize, row: Row) -> usize
-    requires { ⌜ at + 36 ≤ length (now text) ⌝ }
-    ensures { λ r. ⌜ r ≡ at + 36 ⌝ }
+    requires { ⌜ at + rowLength ≤ length (now text) ⌝ }
     ensures { λ r. ⌜ Placed (now (text .entry)) at (rowText row) r (now (text .exit)) ⌝ }
 {
     let unit = put_number(text, at, row.kind as u64);
@@ -125,32 +130,4 @@ fn put_row(text: &mut [u8], at: usize, row: Row) -> usize
     let datum = put_field(text, channel, b" ", row.channel as u64);
     let end = put_field(text, datum, b" ", row.datum as u64);
     put_text(text, end, b"\n")
-}
-
-// Puts a label and a number behind it.
-fn put_field(text: &mut [u8], at: usize, label: &[u8], number: u64) -> usize
-    requires { ⌜ at + length (now label) + 8 ≤ length (now text) ⌝ }
-    ensures { λ r. ⌜ r ≡ at + length (now (label .entry)) + 8 ⌝ }
-    ensures { λ r. ⌜ Placed (now (text .entry)) at (field (now (label .entry)) number) r (now (text .exit)) ⌝ }
-{
-    let end = put_text(text, at, label);
-    put_number(text, end, number)
-}
-
-fn put_number(text: &mut [u8], at: usize, number: u64) -> usize
-    requires { ⌜ at + 8 ≤ length (now text) ⌝ }
-    ensures { λ r. ⌜ r ≡ at + 8 ⌝ }
-    ensures { λ r. ⌜ Placed (now (text .entry)) at (hexOf 8 number) r (now (text .exit)) ⌝ }
-{
-    hex_line::put_digits(text, at, number);
-    at + 8
-}
-
-fn put_text(text: &mut [u8], at: usize, bytes: &[u8]) -> usize
-    requires { ⌜ at + length (now bytes) ≤ length (now text) ⌝ }
-    ensures { λ r. ⌜ r ≡ at + length (now (bytes .entry)) ⌝ }
-    ensures { λ r. ⌜ Placed (now (text .entry)) at (now (bytes .entry)) r (now (text .exit)) ⌝ }
-{
-    hex_line::put_bytes(text, at, bytes);
-    at + bytes.len()
 }

@@ -1,81 +1,108 @@
 -- `lines::list_line` meets its contract. Assumes nothing.
-use Prim.Native.Nat.{_+_, _-_, _*_, _≤_}
+use Prim.Native.Nat.{ℕ, _+_, _-_, _*_, _≤_}
 use native.Mathlib.Omega.{arith}
 use mathlib.Core.Path.{_≡_, refl, sym, ap, _∙_}
+use mathlib.Core.List.{List}
 use lib.ListN.{length, take, drop}
 use lib.Seq.{length-take-le}
-use Rattle.event.specs.Outcome.{answerOf, given, overlaid, defaultOrder}
-use Rattle.event.specs.Rows.{flat, room}
-use Rattle.listing.specs.Listing.{lineRows, lineRowsInto, wordRooms}
-use Rattle.listing.specs.Text.{eventText}
-use Rattle.listing.proofs.TextLaws.{answer-most}
-use Rattle.hex_line.specs.Text.{Placed}
-use Rattle.list_events.specs.Run.{Rooms, countOf}
-use Rattle.listing.proofs.Room.{most-text}
-use Rattle.list_events.proofs.Steps.{behind-within}
-use Rattle.list_events.proofs.LineCalls.{answered, few, accepts, refuses, rows-given}
 use borrow.Author.Needs.{needs}
+use Rattle.event.specs.declared.Row.{Row}
+use Rattle.event.specs.declared.StampOrder.{StampOrder}
+use Rattle.event.specs.Outcome.{Outcome, answerOf, given, overlaid, defaultOrder}
+use Rattle.event.specs.Rows.{flat}
+use Rattle.listing.specs.Lengths.{mostRows}
+use Rattle.list_events.specs.Run.{Rooms}
+use Rattle.list_events.proofs.Steps.{listed-as}
+use Rattle.list_events.proofs.LineCalls.{rowsInto, named, answered, refuses, no-rows, few, rows-given}
 use Rattle.list_events.proofs.lines.list_line.Statement.{statement}
 use Rattle.list_events.proofs.lines.list_line.Tie as tie
 
-rooms : (c : tie.After-line-rows) → Rooms (c .before .before .before .before .before .before .before .before .before .before .before .args .words .now) (c .before .before .before .before .before .before .before .before .before .before .before .args .longwords .now) (c .before .before .before .before .before .before .before .before .before .before .before .args .rows .now)
-rooms c = c .before .before .before .before .before .before .before .before .before .before .before .pre .1 .1
+-- The places: the entry, and where the line was read.
+abbrev entry : tie.After-line-rows → tie.Start
+entry c = c .before .before .before .before .before .before .before .before .before .before .before
 
-called : (c : tie.After-line-rows) → c .line-rows .result ≡ answerOf (lineRowsInto (wordRooms (length (c .before .before .before .before .before .before .before .before .before .before .before .args .words .now)) (length (c .before .before .before .before .before .before .before .before .before .before .before .args .longwords .now))) (room (length (c .before .before .before .before .before .before .before .before .before .before .before .args .rows .now))) defaultOrder (take (c .before .before .before .before .before .before .before .before .before .before .before .args .count) (drop (c .before .before .before .before .before .before .before .before .before .before .before .args .run .from) (c .before .before .before .before .before .before .before .before .before .before .before .args .input .now))))
-called c = let z : c .before .before .before .before .before .before .before .before .before .before .before .args .run .from + c .before .before .before .before .before .before .before .before .before .before .before .args .count - c .before .before .before .before .before .before .before .before .before .before .before .args .run .from ≡ c .before .before .before .before .before .before .before .before .before .before .before .args .count = omega arith in rw (z, c .before .before .before .before .default-order .ensures) at (c .line-rows .ensures .0)
+abbrev read-refused : tie.After-enum-told → tie.After-line-rows
+read-refused c = c .before .before .before .before .before .before .before .before
 
-rows-left : (c : tie.After-line-rows) → c .line-rows .last .1 .1 .1 .1 .0 ≡ overlaid (flat (given (lineRowsInto (wordRooms (length (c .before .before .before .before .before .before .before .before .before .before .before .args .words .now)) (length (c .before .before .before .before .before .before .before .before .before .before .before .args .longwords .now))) (room (length (c .before .before .before .before .before .before .before .before .before .before .before .args .rows .now))) defaultOrder (take (c .before .before .before .before .before .before .before .before .before .before .before .args .count) (drop (c .before .before .before .before .before .before .before .before .before .before .before .args .run .from) (c .before .before .before .before .before .before .before .before .before .before .before .args .input .now)))))) (c .before .before .before .before .before .before .before .before .before .before .before .args .rows .now)
-rows-left c = let z : c .before .before .before .before .before .before .before .before .before .before .before .args .run .from + c .before .before .before .before .before .before .before .before .before .before .before .args .count - c .before .before .before .before .before .before .before .before .before .before .before .args .run .from ≡ c .before .before .before .before .before .before .before .before .before .before .before .args .count = omega arith in rw (z, c .before .before .before .before .default-order .ensures) at (c .line-rows .ensures .1 .0)
+abbrev read-accepted : tie.After-answer → tie.After-line-rows
+read-accepted c = c .before .before .before .before .before .before .before .before
 
-few-found : (c : tie.After-line-rows) → countOf (c .line-rows .result) ≤ 4096
-few-found c = few (take (c .before .before .before .before .before .before .before .before .before .before .before .args .count) (drop (c .before .before .before .before .before .before .before .before .before .before .before .args .run .from) (c .before .before .before .before .before .before .before .before .before .before .before .args .input .now))) (c .before .before .before .before .before .before .before .before .before .before .before .args .words .now) (c .before .before .before .before .before .before .before .before .before .before .before .args .longwords .now) (c .before .before .before .before .before .before .before .before .before .before .before .args .rows .now) (rooms c) (called c)
+module _ (c : tie.After-line-rows) where
+  abbrev line : List ℕ
+  line = take (entry c .args .count) (drop (entry c .args .run .from) (entry c .args .input .now))
 
-mul-elements : tie.Need-mul-elements
-mul-elements c = omega (arith, c .count-of .ensures, few-found (c .before .before .before .before .before .before .before))
+  abbrev lent16 : List ℕ
+  lent16 = entry c .args .words .now
 
-slice-reshare-prefix-put-event : tie.Need-slice-reshare-prefix-put-event
-slice-reshare-prefix-put-event c = omega (arith, c .before .count-of .ensures, few-found (c .before .before .before .before .before .before .before .before), c .before .before .before .before .before .before .before .before .line-rows .kept .1 .1 .1 .1 .0, rooms (c .before .before .before .before .before .before .before .before) .2)
+  abbrev lent32 : List ℕ
+  lent32 = entry c .args .longwords .now
 
-slice-aggregate-put-event : tie.Need-slice-aggregate-put-event
-slice-aggregate-put-event c = sym (length-take-le _ _ (omega (arith, c .before .before .count-of .ensures, few-found (c .before .before .before .before .before .before .before .before .before), c .before .before .before .before .before .before .before .before .before .line-rows .kept .1 .1 .1 .1 .0, rooms (c .before .before .before .before .before .before .before .before .before) .2)))
+  abbrev lentRows : List ℕ
+  lentRows = entry c .args .rows .now
 
-put-event-requires : tie.Need-put-event-requires
-put-event-requires c κs =
-    let p = length-take-le (c .before .before .count-of .result * 4) (c .before .before .before .before .before .before .before .before .before .line-rows .last .1 .1 .1 .1 .0) (omega (arith, c .before .before .count-of .ensures, few-found (c .before .before .before .before .before .before .before .before .before), c .before .before .before .before .before .before .before .before .before .line-rows .kept .1 .1 .1 .1 .0, rooms (c .before .before .before .before .before .before .before .before .before) .2)) in
-    (omega (arith, c .before .before .before .before .before .before .before .before .before .before .before .before .before .before .before .before .before .before .before .before .pre .1 .0 .2), omega (arith, p, answer-most (c .before .before .before .before .before .before .before .before .before .line-rows .result), c .before .before .before .before .before .before .before .before .before .before .before .before .before .before .before .before .before .before .before .before .pre .1 .0 .3, c .before .before .count-of .ensures, few-found (c .before .before .before .before .before .before .before .before .before), c .before .before .before .before .before .before .before .before .before .line-rows .kept .1 .1 .1 .1 .0, rooms (c .before .before .before .before .before .before .before .before .before) .2))
+  abbrev rowsThen : List ℕ
+  rowsThen = c .line-rows .last .1 .1 .1 .1 .0
 
-add-t31 : tie.Need-add-t31
-add-t31 c = omega (arith, c .before .before .before .accepted-of .ensures .1, c .before .before .before .before .before .before .before .before .before .before .before .before .before .before .before .before .before .before .before .before .before .before .before .before .before .before .before .pre .1 .0 .2)
+  rooms : Rooms lent16 lent32 lentRows
+  rooms = entry c .pre .1 .1
 
-listed : (c : tie.After-put-event) → Placed (c .before .before .before .before .before .before .before .before .before .before .before .before .before .before .before .before .before .before .before .before .before .args .text .now) (c .before .before .before .before .before .before .before .before .before .before .before .before .before .before .before .before .before .before .before .before .before .args .run .at) (eventText (c .before .before .before .before .before .before .before .before .before .before .before .before .before .before .before .before .before .before .before .before .before .args .run .accepted + c .before .before .before .before .before .before .before .before .before .before .before .before .before .before .before .before .before .before .before .before .before .args .run .refused + 1) (answerOf (lineRows defaultOrder (take (c .before .before .before .before .before .before .before .before .before .before .before .before .before .before .before .before .before .before .before .before .before .args .count) (drop (c .before .before .before .before .before .before .before .before .before .before .before .before .before .before .before .before .before .before .before .before .before .args .run .from) (c .before .before .before .before .before .before .before .before .before .before .before .before .before .before .before .before .before .before .before .before .before .args .input .now))))) (given (lineRows defaultOrder (take (c .before .before .before .before .before .before .before .before .before .before .before .before .before .before .before .before .before .before .before .before .before .args .count) (drop (c .before .before .before .before .before .before .before .before .before .before .before .before .before .before .before .before .before .before .before .before .before .args .run .from) (c .before .before .before .before .before .before .before .before .before .before .before .before .before .before .before .before .before .before .before .before .before .args .input .now)))))) (c .put-event .result) (c .put-event .last .0)
-listed c =
-    let a = answered (take (c .before .before .before .before .before .before .before .before .before .before .before .before .before .before .before .before .before .before .before .before .before .args .count) (drop (c .before .before .before .before .before .before .before .before .before .before .before .before .before .before .before .before .before .before .before .before .before .args .run .from) (c .before .before .before .before .before .before .before .before .before .before .before .before .before .before .before .before .before .before .before .before .before .args .input .now))) (c .before .before .before .before .before .before .before .before .before .before .before .before .before .before .before .before .before .before .before .before .before .args .words .now) (c .before .before .before .before .before .before .before .before .before .before .before .before .before .before .before .before .before .before .before .before .before .args .longwords .now) (c .before .before .before .before .before .before .before .before .before .before .before .before .before .before .before .before .before .before .before .before .before .args .rows .now) (rooms (c .before .before .before .before .before .before .before .before .before .before)) (called (c .before .before .before .before .before .before .before .before .before .before)) in
-    let g = rows-given (take (c .before .before .before .before .before .before .before .before .before .before .before .before .before .before .before .before .before .before .before .before .before .args .count) (drop (c .before .before .before .before .before .before .before .before .before .before .before .before .before .before .before .before .before .before .before .before .before .args .run .from) (c .before .before .before .before .before .before .before .before .before .before .before .before .before .before .before .before .before .before .before .before .before .args .input .now))) (c .before .before .before .before .before .before .before .before .before .before .before .before .before .before .before .before .before .before .before .before .before .args .words .now) (c .before .before .before .before .before .before .before .before .before .before .before .before .before .before .before .before .before .before .before .before .before .args .longwords .now) (c .before .before .before .before .before .before .before .before .before .before .before .before .before .before .before .before .before .before .before .before .before .args .rows .now) (rooms (c .before .before .before .before .before .before .before .before .before .before)) (called (c .before .before .before .before .before .before .before .before .before .before)) (rows-left (c .before .before .before .before .before .before .before .before .before .before)) in
-    rw (← a, ← g) (rw (c .before .before .before .count-of .ensures) at (c .put-event .ensures))
+  named-rows : {o : StampOrder} → o ≡ defaultOrder → let s = entry c in
+      rowsInto o (take (s .args .run .from + s .args .count - s .args .run .from) (drop (s .args .run .from) (s .args .input .now))) lent16 lent32 lentRows
+      ≡ rowsInto defaultOrder line lent16 lent32 lentRows
+  named-rows e =
+      let s = entry c in
+      let n : s .args .run .from + s .args .count - s .args .run .from ≡ s .args .count = omega arith in
+      named line lent16 lent32 lentRows e (ap (λ (k : ℕ). take k (drop (s .args .run .from) (s .args .input .now))) n)
+
+  called : c .line-rows .result ≡ answerOf (rowsInto defaultOrder line lent16 lent32 lentRows)
+  called = c .line-rows .ensures .0 ∙ ap answerOf (named-rows (c .before .before .before .before .default-order .ensures))
+
+  filled : rowsThen ≡ overlaid (flat (given (rowsInto defaultOrder line lent16 lent32 lentRows))) lentRows
+  filled =
+      c .line-rows .ensures .1 .0
+      ∙ ap (λ (x : Outcome Row). overlaid (flat (given x)) lentRows) (named-rows (c .before .before .before .before .default-order .ensures))
+
+refused-line-requires : tie.Need-refused-line-requires
+refused-line-requires c κs =
+    let r = read-refused (c .before) in
+    (entry r .pre .1 .0, refuses (line r) (lent16 r) (lent32 r) (lentRows r) (rooms r) (called r) (c .before .enum-told .given .1))
 
 returns : tie.Need-returns
 returns c =
-    let p = listed (c .before .before .before .before .before .before) in
-    let w = behind-within (c .before .before .before .before .before .before .before .before .before .before .before .before .before .before .before .before .before .before .before .before .before .before .before .before .before .before .before .args .run) (c .before .before .before .before .before .before .before .before .before .before .before .before .before .before .before .before .before .before .before .before .before .before .before .before .before .before .before .args .count) (c .before .before .before .before .before .before .before .before .before .before .before .before .before .before .before .before .before .before .before .before .before .before .before .before .before .before .before .pre .1 .0 .0) (c .before .before .before .before .before .before .before .before .before .before .before .before .before .before .before .before .before .before .before .before .before .before .before .before .before .before .before .pre .1 .0 .1) in (
-      record {
-        begins = rw (c .before .before .behind-line .ensures) (w .1);
-        ends = c .before .before .before .before .before .before .before .before .before .before .before .before .before .before .before .before .before .before .before .before .before .before .before .before .before .before .before .pre .0 .ends;
-        text = omega (arith, p .ends, most-text defaultOrder (take (c .before .before .before .before .before .before .before .before .before .before .before .before .before .before .before .before .before .before .before .before .before .before .before .before .before .before .before .args .count) (drop (c .before .before .before .before .before .before .before .before .before .before .before .before .before .before .before .before .before .before .before .before .before .before .before .before .before .before .before .args .run .from) (c .before .before .before .before .before .before .before .before .before .before .before .before .before .before .before .before .before .before .before .before .before .before .before .before .before .before .before .args .input .now))) (c .before .before .before .before .before .before .before .before .before .before .before .before .before .before .before .before .before .before .before .before .before .before .before .before .before .before .before .args .run .accepted + c .before .before .before .before .before .before .before .before .before .before .before .before .before .before .before .before .before .before .before .before .before .before .before .before .before .before .before .args .run .refused + 1), c .before .before .before .before .before .before .before .before .before .before .before .before .before .before .before .before .before .before .before .before .before .before .before .before .before .before .before .pre .1 .0 .3);
-        lines = omega (arith, c .before .before .before .accepted-of .ensures .1, c .before .before .before .before .before .before .before .before .before .before .before .before .before .before .before .before .before .before .before .before .before .before .before .before .before .before .before .pre .1 .0 .2);
-      },
-      record {
-        placed = p;
-        from = c .before .before .behind-line .ensures;
-        end = refl;
-        accepted = ap (c .before .before .before .before .before .before .before .before .before .before .before .before .before .before .before .before .before .before .before .before .before .before .before .before .before .before .before .args .run .accepted +_) (c .before .before .before .accepted-of .ensures .0 ∙ accepts (take (c .before .before .before .before .before .before .before .before .before .before .before .before .before .before .before .before .before .before .before .before .before .before .before .before .before .before .before .args .count) (drop (c .before .before .before .before .before .before .before .before .before .before .before .before .before .before .before .before .before .before .before .before .before .before .before .before .before .before .before .args .run .from) (c .before .before .before .before .before .before .before .before .before .before .before .before .before .before .before .before .before .before .before .before .before .before .before .before .before .before .before .args .input .now))) (c .before .before .before .before .before .before .before .before .before .before .before .before .before .before .before .before .before .before .before .before .before .before .before .before .before .before .before .args .words .now) (c .before .before .before .before .before .before .before .before .before .before .before .before .before .before .before .before .before .before .before .before .before .before .before .before .before .before .before .args .longwords .now) (c .before .before .before .before .before .before .before .before .before .before .before .before .before .before .before .before .before .before .before .before .before .before .before .before .before .before .before .args .rows .now) (rooms (c .before .before .before .before .before .before .before .before .before .before .before .before .before .before .before .before)) (called (c .before .before .before .before .before .before .before .before .before .before .before .before .before .before .before .before)));
-        refused = ap (c .before .before .before .before .before .before .before .before .before .before .before .before .before .before .before .before .before .before .before .before .before .before .before .before .before .before .before .args .run .refused +_) (ap (1 -_) (c .before .before .before .accepted-of .ensures .0) ∙ refuses (take (c .before .before .before .before .before .before .before .before .before .before .before .before .before .before .before .before .before .before .before .before .before .before .before .before .before .before .before .args .count) (drop (c .before .before .before .before .before .before .before .before .before .before .before .before .before .before .before .before .before .before .before .before .before .before .before .before .before .before .before .args .run .from) (c .before .before .before .before .before .before .before .before .before .before .before .before .before .before .before .before .before .before .before .before .before .before .before .before .before .before .before .args .input .now))) (c .before .before .before .before .before .before .before .before .before .before .before .before .before .before .before .before .before .before .before .before .before .before .before .before .before .before .before .args .words .now) (c .before .before .before .before .before .before .before .before .before .before .before .before .before .before .before .before .before .before .before .before .before .before .before .before .before .before .before .args .longwords .now) (c .before .before .before .before .before .before .before .before .before .before .before .before .before .before .before .before .before .before .before .before .before .before .before .before .before .before .before .args .rows .now) (rooms (c .before .before .before .before .before .before .before .before .before .before .before .before .before .before .before .before)) (called (c .before .before .before .before .before .before .before .before .before .before .before .before .before .before .before .before)));
-      },
-    )
+    let p : tie.After-refused-line = c .before .before in
+    let t : tie.After-enum-told = p .before .before in
+    let r = read-refused t in
+    listed-as (line r) (answered (line r) (lent16 r) (lent32 r) (lentRows r) (rooms r) (called r))
+    (no-rows (line r) (lent16 r) (lent32 r) (lentRows r) (rooms r) (called r) (t .enum-told .given .1))
+    (entry r .pre .0) (entry r .pre .1 .0) (p .refused-line .ensures)
+
+-- the rows found are in the buffer
+few-found : (c : tie.After-answer) → c .answer .given .0 .0 ≤ mostRows
+few-found c = let r = read-accepted c in few (line r) (lent16 r) (lent32 r) (lentRows r) (rooms r) (called r) (c .answer .given .1)
+
+in-buffer : (c : tie.After-answer) → c .answer .given .0 .0 * 4 ≤ length (rowsThen (read-accepted c))
+in-buffer c = let r = read-accepted c in omega (arith, few-found c, r .line-rows .kept .1 .1 .1 .1 .0, rooms r .2)
+
+accepted-line-requires : tie.Need-accepted-line-requires
+accepted-line-requires c κs =
+    let a : tie.After-answer = c .before .before .before in
+    let r = read-accepted a in
+    (entry r .pre .1 .0, (refl, omega (arith, few-found a, length-take-le (a .answer .given .0 .0 * 4) (rowsThen r) (in-buffer a))))
+
+returns-2 : tie.Need-returns-2
+returns-2 c =
+    let p : tie.After-accepted-line = c .before .before in
+    let a : tie.After-answer = p .before .before .before .before in
+    let r = read-accepted a in
+    listed-as (line r) (sym (a .answer .given .1) ∙ answered (line r) (lent16 r) (lent32 r) (lentRows r) (rooms r) (called r))
+    (rows-given (line r) (lent16 r) (lent32 r) (lentRows r) (rooms r) (called r) (a .answer .given .1) (filled r))
+    (entry r .pre .0) (entry r .pre .1 .0) (p .accepted-line .ensures)
 
 pub list-line-spec : {M : Type 1} → statement M
 list-line-spec =
     tie.close
     (tie.spec (λ c. search needs) (λ c. search needs) (λ c. search needs) (λ c. search needs) (λ c κs. search needs) (λ c κs. search needs)
-    (λ c κs. search needs) mul-elements slice-reshare-prefix-put-event slice-aggregate-put-event put-event-requires (λ c κs. search needs)
-    (λ c κs. search needs) (λ c. search needs) (λ c. search needs) add-t31 (λ c. search needs) (λ c. search needs) (λ c. search needs)
-    (λ c. search needs) returns)
+    (λ c. search needs) (λ c. search needs) refused-line-requires (λ c. search needs) (λ c. search needs) (λ c. search needs)
+    (λ c. search needs) returns (λ c. omega (arith, few-found (c .before))) (λ c. in-buffer (c .before .before))
+    (λ c. sym (length-take-le _ _ (in-buffer (c .before .before .before)))) accepted-line-requires (λ c. search needs) (λ c. search needs)
+    (λ c. search needs) (λ c. search needs) returns-2)

@@ -1,26 +1,34 @@
 -- `lines::put_last` meets its contract. Assumes nothing.
-use Prim.Native.Nat.{_+_, _≤_}
+use Prim.Native.Nat.{ℕ, _+_, _≤_}
+use mathlib.Core.List.{List}
+use mathlib.Core.Path.{ap, _∙_}
 use native.Mathlib.Omega.{arith}
-use mathlib.Core.Path.{_≡_, ap, _∙_}
 use lib.ListN.{length}
+use borrow.Author.Needs.{needs}
 use Rattle.listing.specs.Text.{lastText}
 use Rattle.listing.proofs.TextLaws.{last-length}
 use Rattle.list_events.proofs.Texts.{put-behind}
-use borrow.Author.Needs.{needs}
 use Rattle.list_events.proofs.lines.put_last.Statement.{statement}
 use Rattle.list_events.proofs.lines.put_last.Tie as tie
 
-fits : (c : tie.After-put-last) → c .before .before .before .args .run .at + length (lastText (c .before .before .before .args .cut) (c .before .before .before .args .run .accepted) (c .before .before .before .args .run .refused)) ≤ length (c .before .before .before .args .text .now)
+abbrev entry : tie.After-put-last → tie.Start
+entry c = c .before .before .before
+
+abbrev itsText : tie.Start → List ℕ
+itsText s = lastText (s .args .cut) (s .args .run .accepted) (s .args .run .refused)
+
+fits : (c : tie.After-put-last) → let s = entry c in s .args .run .at + length (itsText s) ≤ length (s .args .text .now)
 fits c = rw last-length (search needs)
 
-placed : (c : tie.After-put-last) → c .before .before .before .args .run .at + c .put-last .result ≡ c .before .before .before .args .run .at + 37
-placed c = put-behind (c .before .before .before .args .text .now) (lastText (c .before .before .before .args .cut) (c .before .before .before .args .run .accepted) (c .before .before .before .args .run .refused)) (c .before .before .before .args .run .at) (fits c) (c .put-last .ensures .0) (c .put-last .ensures .1) .ends ∙ ap (c .before .before .before .args .run .at +_) (last-length (c .before .before .before .args .cut) (c .before .before .before .args .run .accepted) (c .before .before .before .args .run .refused))
+returns : tie.Need-returns
+returns c =
+    let p : tie.After-put-last = c .before .before in
+    let s = entry p in
+    let t = put-behind (s .args .text .now) (itsText s) (s .args .run .at) (fits p) (p .put-last .ensures .0) (p .put-last .ensures .1) in
+    (t .ends ∙ ap (s .args .run .at +_) (last-length (s .args .cut) (s .args .run .accepted) (s .args .run .refused)), t)
 
 add-result : tie.Need-add-result
-add-result c = omega (arith, placed (c .before .before))
-
-returns : tie.Need-returns
-returns c = (placed (c .before .before), put-behind (c .before .before .before .before .before .args .text .now) (lastText (c .before .before .before .before .before .args .cut) (c .before .before .before .before .before .args .run .accepted) (c .before .before .before .before .before .args .run .refused)) (c .before .before .before .before .before .args .run .at) (fits (c .before .before)) (c .before .before .put-last .ensures .0) (c .before .before .put-last .ensures .1))
+add-result c = omega (arith, returns c .0)
 
 pub put-last-spec : {M : Type 1} → statement M
 put-last-spec =

@@ -16,14 +16,14 @@ abbrev μ-loop : tie.MeasureT-loop
 μ-loop input₀ from count i₀ input i = count - i
 
 loop-again : tie.Need-loop-again Inv-loop μ-loop
-loop-again c = (
-  search needs,
-  simp length-set (c .before .before .loop .inv .1),
-  rw (c .before .before .loop .inv .2) (move-next (c .before .before .before .args .input .now) (c .before .before .before .args .from) (c .before .before .before .args .count) (c .before .before .loop .i) (search needs) (search needs)),
-)
+loop-again c =
+    let l : tie.At-loop Inv-loop μ-loop = c .before .before in
+    let s = l .before in
+    let m = move-next (s .args .input .now) (s .args .from) (s .args .count) (l .loop .i) (search needs) (search needs) in
+    (search needs, simp length-set (l .loop .inv .1), rw (l .loop .inv .2) m)
 
 returns : tie.Need-returns Inv-loop μ-loop
-returns c = let e : c .before .loop .i ≡ c .before .before .args .count = omega arith in c .before .loop .inv .2 ∙ rw e
+returns c = let l : tie.At-loop Inv-loop μ-loop = c .before in let e : l .loop .i ≡ l .before .args .count = omega arith in l .loop .inv .2 ∙ rw e
 
 pub move-to-front-spec : {M : Type 1} → statement M
 move-to-front-spec =

@@ -8,13 +8,24 @@ use borrow.Author.Needs.{needs}
 use Rattle.list_events.proofs.streams.refill.Statement.{statement}
 use Rattle.list_events.proofs.streams.refill.Tie as tie
 
+-- The places: the entry, where the characters were moved, and where more were read.
+abbrev entry : tie.After-move-to-front → tie.Start
+entry c = c .before .before .before .before
+
+abbrev moved : tie.After-read → tie.After-move-to-front
+moved c = c .before .before .before .before
+
 returns : tie.Need-returns
 returns c =
-    let l = length (c .before .before .before .before .before .before .before .before .before .move-to-front .last .0) - (c .before .before .before .before .before .before .before .before .before .before .before .before .before .args .run .end - c .before .before .before .before .before .before .before .before .before .before .before .before .before .args .run .from) in
+    let r : tie.After-read = c .before .before .before .before .before in
+    let m = moved r in
+    let s = entry m in
+    let n = s .args .run .end - s .args .run .from in
+    let front = m .move-to-front .last .0 in
     let e = rw (c .after-read .ensures .0) at (c .after-read .ensures .1 .0) in
     rw (c .after-read .ensures .0) (
-      record { begins = omega arith; ends = omega arith; text = omega arith; lines = c .before .before .before .before .before .before .before .before .before .before .before .before .before .pre .lines },
-      (front-kept (c .before .before .before .before .before .before .before .before .before .before .before .before .before .args .input .now) (c .before .before .before .before .before .before .before .before .before .move-to-front .last .0) (c .before .before .before .before .before .read .last .1 .0) (c .before .before .before .before .before .before .before .before .before .before .before .before .before .args .run .from) (c .before .before .before .before .before .before .before .before .before .before .before .before .before .args .run .end - c .before .before .before .before .before .before .before .before .before .before .before .before .before .args .run .from) _ l (search needs) (c .before .before .before .before .before .before .before .before .before .move-to-front .ensures) (c .before .before .before .before .before .before .before .before .before .move-to-front .kept .0), (refl, refl)),
+      record { begins = omega arith; ends = omega arith; text = omega arith; lines = s .pre .lines },
+      (front-kept (s .args .input .now) front (r .read .last .1 .0) (s .args .run .from) n _ (length front - n) (search needs) (m .move-to-front .ensures) (m .move-to-front .kept .0), (refl, refl)),
     )
 
 pub refill-spec : {M : Type 1} → statement M

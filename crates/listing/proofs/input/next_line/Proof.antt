@@ -20,19 +20,30 @@ returns-3 c = simp (ne-eqb _ _ (c .before .if1 .left), le-leb _ _ (c .if3 .taken
 
 returns-4 : tie.Need-returns-4
 unfolding nextOf
-returns-4 c = simp (ne-eqb _ _ (c .before .before .before .if1 .left), lt-leb _ _ (c .before .before .if3 .left), sym (c .before .first-line .ensures), lt-ltb _ _ (c .if4 .taken))
+returns-4 c =
+    let f : tie.After-first-line = c .before in
+    simp (ne-eqb _ _ (f .before .before .if1 .left), lt-leb _ _ (f .before .if3 .left), sym (f .first-line .ensures), lt-ltb _ _ (c .if4 .taken))
 
 returns-5 : tie.Need-returns-5
 unfolding nextOf
-returns-5 c = simp (ne-eqb _ _ (c .before .before .before .before .if1 .left), lt-leb _ _ (c .before .before .before .if3 .left), sym (c .before .before .first-line .ensures), le-ltb _ _ (c .before .if4 .left), c .if5 .taken)
+returns-5 c =
+    let l : tie.Else4 = c .before in
+    let f : tie.After-first-line = l .before in
+    simp (ne-eqb _ _ (f .before .before .if1 .left), lt-leb _ _ (f .before .if3 .left), sym (f .first-line .ensures), le-ltb _ _ (l .if4 .left), c .if5 .taken)
 
 returns-6 : tie.Need-returns-6
 unfolding nextOf
-returns-6 c = simp (ne-eqb _ _ (c .before .before .before .before .before .if1 .left), lt-leb _ _ (c .before .before .before .before .if3 .left), sym (c .before .before .before .first-line .ensures), le-ltb _ _ (c .before .before .if4 .left), c .before .if5 .left, lt-ltb _ _ (c .if6 .taken))
+returns-6 c =
+    let l : tie.Else4 = c .before .before in
+    let f : tie.After-first-line = l .before in
+    simp (ne-eqb _ _ (f .before .before .if1 .left), lt-leb _ _ (f .before .if3 .left), sym (f .first-line .ensures), le-ltb _ _ (l .if4 .left), c .before .if5 .left, lt-ltb _ _ (c .if6 .taken))
 
 returns-7 : tie.Need-returns-7
 unfolding nextOf
-returns-7 c = simp (ne-eqb _ _ (c .before .before .before .before .before .if1 .left), lt-leb _ _ (c .before .before .before .before .if3 .left), sym (c .before .before .before .first-line .ensures), le-ltb _ _ (c .before .before .if4 .left), c .before .if5 .left, le-ltb _ _ (c .if6 .left))
+returns-7 c =
+    let l : tie.Else4 = c .before .before in
+    let f : tie.After-first-line = l .before in
+    simp (ne-eqb _ _ (f .before .before .if1 .left), lt-leb _ _ (f .before .if3 .left), sym (f .first-line .ensures), le-ltb _ _ (l .if4 .left), c .before .if5 .left, le-ltb _ _ (c .if6 .left))
 
 pub next-line-spec : {M : Type 1} → statement M
 next-line-spec =

@@ -1,14 +1,21 @@
 -- `text::put_events` meets its contract. Assumes nothing.
 use native.Mathlib.Omega.{arith}
 use borrow.Author.Needs.{needs}
+use Rattle.hex_line.proofs.TextLaws.{field-length, placed}
 use Rattle.listing.proofs.text.put_events.Statement.{statement}
 use Rattle.listing.proofs.text.put_events.Tie as tie
 
 returns : tie.Need-returns
-returns c = (omega (arith, c .before .before .put-field .ensures .0), rw (c .before .before .before .before .before .if1 .taken) (c .before .before .put-field .ensures .1))
+returns c =
+    let p : tie.After-put-field = c .before .before in
+    let t : tie.Then1 = p .before .before .before in
+    rw (t .if1 .taken) (placed (p .put-field .ensures) (rw field-length (omega (arith, t .before .before .pre))))
 
 returns-2 : tie.Need-returns-2
-returns-2 c = (omega (arith, c .before .before .put-field2 .ensures .0), rw (c .before .before .before .before .before .if1 .left) (c .before .before .put-field2 .ensures .1))
+returns-2 c =
+    let p : tie.After-put-field2 = c .before .before in
+    let t : tie.Else1 = p .before .before .before in
+    rw (t .if1 .left) (placed (p .put-field2 .ensures) (rw field-length (omega (arith, t .before .before .pre))))
 
 pub put-events-spec : {M : Type 1} → statement M
 put-events-spec =

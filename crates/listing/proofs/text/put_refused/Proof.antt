@@ -1,16 +1,24 @@
 -- `text::put_refused` meets its contract. Assumes nothing.
-use Rattle.hex_line.proofs.TextLaws.{placed-then}
-use Rattle.listing.specs.Text.{refusedText}
+use native.Mathlib.Omega.{arith}
+use lib.ListN.{length-append}
 use borrow.Author.Needs.{needs}
+use Rattle.hex_line.proofs.TextLaws.{field-length, placed, placed-put}
+use Rattle.listing.specs.Text.{refusedText}
 use Rattle.listing.proofs.text.put_refused.Statement.{statement}
 use Rattle.listing.proofs.text.put_refused.Tie as tie
 
 returns : tie.Need-returns
 unfolding refusedText
 returns c =
-    placed-then
-    (placed-then (placed-then (c .before .before .before .before .before .before .before .before .before .before .before .before .before .before .before .before .before .put-field .ensures .1) (c .before .before .before .before .before .before .before .before .before .before .before .before .put-field2 .ensures .1)) (c .before .before .before .before .before .before .before .put-field3 .ensures .1))
-    (c .before .before .put-text .ensures .1)
+    let end : tie.After-put-text = c .before .before in
+    let place : tie.After-put-field3 = end .before .before .before .before .before in
+    let number : tie.After-put-field2 = place .before .before .before .before .before in
+    let event : tie.After-put-field = number .before .before .before .before .before in
+    let s : tie.Start = event .before .before .before .before in
+    let p = placed (event .put-field .ensures) (rw field-length (omega (arith, s .pre))) in
+    let q = placed-put p _ (number .put-field2 .ensures) (simp (length-append, field-length) (omega (arith, s .pre))) in
+    let r = placed-put q _ (place .put-field3 .ensures) (simp (length-append, field-length) (omega (arith, s .pre))) in
+    placed-put r _ (end .put-text .ensures) (simp (length-append, field-length) (omega (arith, s .pre)))
 
 pub put-refused-spec : {M : Type 1} → statement M
 put-refused-spec =
