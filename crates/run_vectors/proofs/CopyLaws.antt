@@ -1,16 +1,12 @@
 -- A list copied over a buffer. Assumes nothing.
 use mathlib.Core.Path.{_≡_}
-use mathlib.Core.List.{List, [], _∷_, _++_, append-assoc, append-nil}
-use Prim.Native.Nat.{ℕ, suc, _+_, _<_}
+use mathlib.Core.List.{List, _++_, append-nil}
+use Prim.Native.Nat.{ℕ, _+_, _<_}
 use native.Mathlib.Numerals.{add-one}
 use native.Mathlib.Omega.{arith}
 use lib.ListN.{length, getD, take, drop, set, drop-of-length-le}
-use lib.Seq.{take-length, set-at, drop-cons, length-take-le, take-suc}
-
--- one more element stored behind a list that is written so far
-store-next : (ws out : List ℕ) (k v : ℕ) → length ws ≡ k → k < length out
-    → set (ws ++ drop k out) k v ≡ (ws ++ (v ∷ [])) ++ drop (k + 1) out
-store-next ws out k v e h = rw (add-one, drop-cons out k 0, append-assoc, set-at ws (getD out k 0) (drop (suc k) out) v k e)
+use lib.Seq.{take-length, length-take-le, take-suc}
+use Rattle.event.proofs.WordStores.{store-next}
 
 -- a list copied over a buffer: one element more, and all of them
 pub copy-next : (list out : List ℕ) (i : ℕ) → i < length list → i < length out

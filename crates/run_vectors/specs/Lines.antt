@@ -1,24 +1,17 @@
 -- A line of the input: five numbers of eight hexadecimal digits. Assumes nothing.
-use mathlib.Core.Bool.{Bool, true, false, cond, _&&_}
+use mathlib.Core.Bool.{Bool, cond, _&&_}
 use mathlib.Core.List.{List}
-use Prim.Native.Nat.{ℕ, zero, suc, _+_, _-_, _*_, _≤_}
+use Prim.Native.Nat.{ℕ, _+_, _-_, _≤_}
 use lib.Dec.{ltb, eqb}
 use lib.ListN.{length, getD}
+use Rattle.hex_line.specs.Line.{numberAt}
 use Rattle.run_vectors.specs.declared.lines.Numbers.{Numbers}
 use Rattle.run_vectors.specs.declared.lines.Line.{Line}
 use Rattle.run_vectors.specs.declared.lines.Line.the-variants.{Read, Malformed}
 
--- `0` to `9` and `a` to `f`; any other character counts as 0
-unfoldable pub digitOf : ℕ → ℕ
-digitOf c = cond (ltb c 48) 0 (cond (ltb c 58) (c - 48) (cond (ltb c 97) 0 (cond (ltb c 103) (c - 87) 0)))
-
--- the value of the n digits from a place on, the most significant first
-unfoldable pub valueOf : List ℕ → ℕ → ℕ → ℕ
-valueOf input place zero = 0
-valueOf input place (suc n) = valueOf input place n * 16 + digitOf (getD input (place + n) 0)
-
-abbrev pub numberAt : List ℕ → ℕ → ℕ
-numberAt input place = valueOf input place 8
+-- the bytes of a line
+abbrev pub lineBytes : ℕ
+lineBytes = 45
 
 abbrev pub numbersAt : List ℕ → ℕ → Numbers
 numbersAt input place =
@@ -39,9 +32,9 @@ separatedAt input place =
 
 unfoldable pub lineAt : List ℕ → ℕ → Line
 lineAt input place =
-    cond (ltb (length input - place) 45) Malformed (cond (separatedAt input place) (Read (numbersAt input place)) Malformed)
+    cond (ltb (length input - place) lineBytes) Malformed (cond (separatedAt input place) (Read (numbersAt input place)) Malformed)
 
 -- a line that was read ends within the n bytes of the input
 abbrev pub LineWithin : ℕ → ℕ → Line → Type 0
-LineWithin n place (Read numbers) = place + 45 ≤ n
+LineWithin n place (Read numbers) = place + lineBytes ≤ n
 LineWithin n place Malformed = Unit {0}

@@ -1,79 +1,79 @@
-// The calls. Before a call every lent element is 0xa5a5 (a word of S) or 0xa5a5a5a5 (a word of F, an element of a row).
+// The calls. Before a call every lent element is 0xa5a5 (a word of 16 bits) or 0xa5a5a5a5 (a word of 32 bits, an element of a row).
 use crate::output::put_result;
 use crate::vectors::Call;
+use crate::vectors::MOST_ELEMENTS;
 use crate::vectors::Vector;
+use dialects::Dialect;
 use event::Answer;
 use event::StampOrder;
 ghost use Prim.Native.Nat.{_≤_};
 ghost use mathlib.Core.Path.{_≡_};
-ghost use lib.ListN.{length, replicate};
+ghost use lib.ListN.{length};
+ghost use Rattle.run_vectors.specs.Text.{Pending};
+ghost use Rattle.run_vectors.specs.Vectors.{mostElements};
 ghost use Rattle.run_vectors.specs.Widths.{overWords};
 
 // Puts what the vector's call answered and left, and answers where the text ends.
 pub(crate) fn show(vector: Vector, elements: &[u32], text: &mut [u8], at: usize) -> usize
-    requires { ⌜ (vector .room ≤ 16800) × (length (now elements) ≤ 16800) ⌝ }
-    requires { ⌜ (at ≤ length (now text)) × (64 ≤ length (now text)) ⌝ }
+    requires { ⌜ (vector .room ≤ mostElements) × (length (now elements) ≤ mostElements) ⌝ }
+    requires { ⌜ Pending (now text) at ⌝ }
     ensures { λ r. ⌜ r ≤ length (now (text .entry)) ⌝ }
 {
     let room = vector.room;
-    let mut lent = words32(0xa5a5a5a5);
+    let mut lent = [0xa5a5a5a5; MOST_ELEMENTS];
     let answer = run(vector, elements, &mut lent);
     put_result(text, at, answer, &lent[..room])
 }
 
 // The vector's call, with its room of the elements that can be lent.
 fn run(vector: Vector, elements: &[u32], lent: &mut [u32]) -> Answer
-    requires { ⌜ (length (now elements) ≤ 16800) × (vector .room ≤ 16800) × (vector .room ≤ length (now lent)) ⌝ }
+    requires { ⌜ (length (now elements) ≤ mostElements) × (vector .room ≤ mostElements) × (vector .room ≤ length (now lent)) ⌝ }
 {
     let call = vector.call;
+    let dialect = vector.dialect;
     let order = vector.order;
     let room = vector.room;
     let part = &mut lent[..room];
     match call {
-        Call::WriteS => write_s(elements, order, part),
-        Call::WriteF => frs::write(elements, part),
-        Call::ReadS => read_s(elements, order, part),
-        Call::ReadF => frs::read(elements, part),
+        Call::Write => write(dialect, elements, order, part),
+        Call::Read => read(dialect, elements, order, part),
     }
 }
 
-// The writer is lent as many words of S, and the lent elements hold them afterwards.
-fn write_s(rows: &[u32], order: StampOrder, lent: &mut [u32]) -> Answer
-    requires { ⌜ length (now lent) ≤ 16800 ⌝ }
+// As many words of 16 bits are lent beside the lent elements.
+fn write(dialect: Dialect, rows: &[u32], order: StampOrder, lent: &mut [u32]) -> Answer
+    requires { ⌜ length (now lent) ≤ mostElements ⌝ }
 {
     let room = lent.len();
-    let mut words = words16(0xa5a5);
-    let answer = write_words(rows, order, &mut words, room);
-    widen(&words[..room], lent);
+    let mut words = [0xa5a5; MOST_ELEMENTS];
+    write_both(dialect, rows, order, &mut words[..room], lent)
+}
+
+// The lent elements hold the words afterwards, also those of 16 bits.
+fn write_both(
+    dialect: Dialect,
+    rows: &[u32],
+    order: StampOrder,
+    words: &mut [u16],
+    lent: &mut [u32],
+) -> Answer
+    requires { ⌜ length (now words) ≡ length (now lent) ⌝ }
+{
+    let answer = any_dialect::write(dialect, rows, order, words, lent);
+    if dialects::width(dialect) == 16 {
+        widen(words, lent);
+    }
     answer
 }
 
-fn write_words(rows: &[u32], order: StampOrder, words: &mut [u16], room: usize) -> Answer
-    requires { ⌜ room ≤ length (now words) ⌝ }
-{
-    s800::write(rows, order, &mut words[..room])
-}
-
-fn read_s(elements: &[u32], order: StampOrder, lent: &mut [u32]) -> Answer
-    requires { ⌜ length (now elements) ≤ 16800 ⌝ }
+// The elements are read as they are, or as words of 16 bits.
+fn read(dialect: Dialect, elements: &[u32], order: StampOrder, rows: &mut [u32]) -> Answer
+    requires { ⌜ length (now elements) ≤ mostElements ⌝ }
 {
     let count = elements.len();
-    let mut words = words16(0);
+    let mut words = [0; MOST_ELEMENTS];
     narrow(elements, &mut words);
-    s800::read(&words[..count], order, lent)
-}
-
-// As many equal words as can go in or be lent.
-fn words16(word: u16) -> [u16; 16800]
-    ensures { λ r. ⌜ (16800 ≡ length r) × (r ≡ replicate 16800 word) ⌝ }
-{
-    [word; 16800]
-}
-
-fn words32(word: u32) -> [u32; 16800]
-    ensures { λ r. ⌜ (16800 ≡ length r) × (r ≡ replicate 16800 word) ⌝ }
-{
-    [word; 16800]
+    any_dialect::read(dialect, &words[..count], elements, order, rows)
 }
 
 // The words as 32-bit numbers.

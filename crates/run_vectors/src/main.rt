@@ -1,4 +1,4 @@
-// Runs the writings and the readings of both dialects on test vectors from standard input and prints what they answered and
+// Runs the writings and the readings of every dialect on test vectors from standard input and prints what they answered and
 // the lent elements afterwards. The vectors and the expected output come from the independent second reader (`second/`).
 // At a malformed or incomplete vector it prints `malformed` and ends. It reads at most 2 MiB; in a vector at most 16,800 elements
 // go in, and at most 16,800 are lent.
@@ -11,10 +11,13 @@ mod vectors;
 use libc::STDIN_FILENO;
 use output::put_malformed;
 use output::write_text;
+use vectors::MOST_ELEMENTS;
 use vectors::Parsed;
 use vectors::read_vector;
 ghost use Prim.Native.Nat.{_≤_, _<_};
 ghost use lib.ListN.{length};
+ghost use Rattle.run_vectors.specs.Text.{Pending};
+ghost use Rattle.run_vectors.specs.Vectors.{mostElements};
 
 // The place of the next vector, and where the text not yet written ends.
 struct Turn {
@@ -24,8 +27,8 @@ struct Turn {
 
 // Shows the vector at `place`. At a malformed one it prints `malformed` and goes to the input's end.
 fn show_vector(input: &[u8], place: usize, elements: &mut [u32], text: &mut [u8], at: usize) -> Turn
-    requires { ⌜ (place < length (now input)) × (length (now elements) ≤ 16800) ⌝ }
-    requires { ⌜ (at ≤ length (now text)) × (64 ≤ length (now text)) ⌝ }
+    requires { ⌜ (place < length (now input)) × (length (now elements) ≤ mostElements) ⌝ }
+    requires { ⌜ Pending (now text) at ⌝ }
     ensures { λ r. ⌜ (place < r .place) × (r .place ≤ length (now (input .entry))) ⌝ }
     ensures { λ r. ⌜ r .at ≤ length (now (text .entry)) ⌝ }
 {
@@ -43,7 +46,7 @@ fn show_vector(input: &[u8], place: usize, elements: &mut [u32], text: &mut [u8]
 }
 
 fn show_all(input: &[u8], elements: &mut [u32], text: &mut [u8])
-    requires { ⌜ (length (now elements) ≤ 16800) × (64 ≤ length (now text)) ⌝ }
+    requires { ⌜ (length (now elements) ≤ mostElements) × Pending (now text) 0 ⌝ }
 {
     let mut turn = Turn { place: 0, at: 0 };
     while turn.place < input.len() {
@@ -53,7 +56,7 @@ fn show_all(input: &[u8], elements: &mut [u32], text: &mut [u8])
 }
 
 fn show_input(input: &mut [u8], elements: &mut [u32], text: &mut [u8])
-    requires { ⌜ (length (now elements) ≤ 16800) × (64 ≤ length (now text)) ⌝ }
+    requires { ⌜ (length (now elements) ≤ mostElements) × Pending (now text) 0 ⌝ }
 {
     let count = io::read_full(STDIN_FILENO, input);
     show_all(&input[..count], elements, text);
@@ -61,7 +64,7 @@ fn show_input(input: &mut [u8], elements: &mut [u32], text: &mut [u8])
 
 fn main() {
     let mut input = [0u8; 2097152];
-    let mut elements = [0u32; 16800];
+    let mut elements = [0u32; MOST_ELEMENTS];
     let mut text = [0u8; 65536];
     show_input(&mut input, &mut elements, &mut text);
 }

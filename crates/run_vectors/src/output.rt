@@ -1,11 +1,13 @@
 // The text not yet written, in a lent buffer up to `at`, and its writing to standard output.
+use crate::text::LONGEST_TEXT;
 use crate::text::put_answer;
 use crate::text::put_run;
-use crate::text::put_text;
 use event::Answer;
+use hex_line::put_text;
 use libc::STDOUT_FILENO;
 ghost use Prim.Native.Nat.{_+_, _<_, _≤_};
 ghost use lib.ListN.{length};
+ghost use Rattle.run_vectors.specs.Text.{longestText, Pending};
 ghost use Rattle.run_vectors.specs.Runs.{Run};
 
 pub(crate) fn write_text(text: &[u8], at: usize)
@@ -16,10 +18,10 @@ pub(crate) fn write_text(text: &[u8], at: usize)
 
 // Where the next line may be put: the text not yet written goes out where the buffer is nearly full.
 fn make_room(text: &[u8], at: usize) -> usize
-    requires { ⌜ (at ≤ length (now text)) × (64 ≤ length (now text)) ⌝ }
-    ensures { λ r. ⌜ r + 64 ≤ length (now (text .entry)) ⌝ }
+    requires { ⌜ Pending (now text) at ⌝ }
+    ensures { λ r. ⌜ r + longestText ≤ length (now (text .entry)) ⌝ }
 {
-    if 64 <= text.len() - at {
+    if LONGEST_TEXT <= text.len() - at {
         return at;
     }
     write_text(text, at);
@@ -27,7 +29,7 @@ fn make_room(text: &[u8], at: usize) -> usize
 }
 
 pub(crate) fn put_malformed(text: &mut [u8], at: usize) -> usize
-    requires { ⌜ (at ≤ length (now text)) × (64 ≤ length (now text)) ⌝ }
+    requires { ⌜ Pending (now text) at ⌝ }
     ensures { λ r. ⌜ r ≤ length (now (text .entry)) ⌝ }
 {
     let start = make_room(text, at);
@@ -36,7 +38,7 @@ pub(crate) fn put_malformed(text: &mut [u8], at: usize) -> usize
 
 // The answer, and the lent elements as runs of equal elements.
 pub(crate) fn put_result(text: &mut [u8], at: usize, answer: Answer, lent: &[u32]) -> usize
-    requires { ⌜ (at ≤ length (now text)) × (64 ≤ length (now text)) ⌝ }
+    requires { ⌜ Pending (now text) at ⌝ }
     ensures { λ r. ⌜ r ≤ length (now (text .entry)) ⌝ }
 {
     let start = make_room(text, at);
@@ -45,7 +47,7 @@ pub(crate) fn put_result(text: &mut [u8], at: usize, answer: Answer, lent: &[u32
 }
 
 fn put_lent(text: &mut [u8], at: usize, lent: &[u32]) -> usize
-    requires { ⌜ (at ≤ length (now text)) × (64 ≤ length (now text)) ⌝ }
+    requires { ⌜ Pending (now text) at ⌝ }
     ensures { λ r. ⌜ r ≤ length (now (text .entry)) ⌝ }
 {
     let mut end = at;

@@ -1,10 +1,13 @@
 // A vector of the input: a head line `CALL ORDER ROOM CUT RUNS`, then a line `REPEAT A B C D` for each run of the elements that go in:
 // the four elements A B C D, so many times. The last CUT elements are left out. The elements are those of rows for a writing, and words
-// for a reading; each four of them are stored as a row is. CALL: 0 = write S, 1 = write F, 2 = read S, 3 = read F.
+// for a reading; each four of them are stored as a row is. CALL / 2: 0 = write, 1 = read; CALL % 2, the dialect: 0 = S, 1 = F.
 // ORDER: 0 = crossed, 1 = rising.
+use crate::lines::LINE_BYTES;
 use crate::lines::Line;
 use crate::lines::Numbers;
 use crate::lines::read_line;
+use dialects::Dialect;
+use dialects::dialect_of;
 use event::Row;
 use event::StampOrder;
 use event::order_of;
@@ -15,16 +18,20 @@ ghost use lib.ListN.{length, replicate};
 ghost use Rattle.event.specs.Scanning.{storeRows};
 ghost use Rattle.run_vectors.specs.Vectors.{callOf, headHolds, allWords16, suits, rowOf, expansion, vectorOf, vectorAt, RowsWithin, VectorWithin};
 
+// The most elements that go in, and the most that are lent.
+pub(crate) const MOST_ELEMENTS: usize = 16800;
+// How many dialects there are: CALL / DIALECTS is the call, CALL % DIALECTS the dialect.
+const DIALECTS: u32 = 2;
+
 pub enum Call {
-    WriteS,
-    WriteF,
-    ReadS,
-    ReadF,
+    Write,
+    Read,
 }
 
 // What is called, and with what: the stamp order, how many elements are lent, and how many go in. The next vector stands at `next`.
 pub struct Vector {
     pub call: Call,
+    pub dialect: Dialect,
     pub order: StampOrder,
     pub room: usize,
     pub elements: usize,
@@ -55,7 +62,7 @@ pub(crate) fn read_vector(input: &[u8], place: usize, elements: &mut [u32]) -> P
     if !head_holds(head) {
         return Parsed::Malformed;
     }
-    let expanded = expand(input, place + 45, head.fifth as usize, elements);
+    let expanded = expand(input, place + LINE_BYTES, head.fifth as usize, elements);
     let Expanded::Rows { count, next } = expanded else {
         return Parsed::Malformed;
     };
@@ -66,13 +73,13 @@ pub(crate) fn read_vector(input: &[u8], place: usize, elements: &mut [u32]) -> P
 fn head_holds(head: Numbers) -> bool
     ensures { λ r. ⌜ r ≡ headHolds head ⌝ }
 {
-    if 3 < head.first {
+    if 1 < head.first / DIALECTS {
         return false;
     }
     if 1 < head.second {
         return false;
     }
-    head.third <= 16800
+    head.third as usize <= MOST_ELEMENTS
 }
 
 // The vector of a head that holds, with the elements of its runs, `all` of them before the last are cut.
@@ -86,11 +93,13 @@ fn vector_of(head: Numbers, elements: &[u32], all: usize, next: usize) -> Parsed
     }
     let count = all - cut;
     let call = call_of(head.first);
-    if !suits(call, &elements[..count]) {
+    let dialect = dialect_of(head.first % DIALECTS);
+    if !suits(call, dialect, &elements[..count]) {
         return Parsed::Malformed;
     }
     Parsed::Given(Vector {
         call,
+        dialect,
         order: order_of(head.second),
         room: head.third as usize,
         elements: count,
@@ -101,28 +110,23 @@ fn vector_of(head: Numbers, elements: &[u32], all: usize, next: usize) -> Parsed
 fn call_of(number: u32) -> Call
     ensures { λ r. ⌜ r ≡ callOf number ⌝ }
 {
-    if number == 0 {
-        return Call::WriteS;
+    if number / DIALECTS == 0 {
+        return Call::Write;
     }
-    if number == 1 {
-        return Call::WriteF;
-    }
-    if number == 2 {
-        return Call::ReadS;
-    }
-    Call::ReadF
+    Call::Read
 }
 
-// Whether a call takes these elements: the reading of S takes words of 16 bits, and the other calls any.
-fn suits(call: Call, elements: &[u32]) -> bool
-    ensures { λ r. ⌜ r ≡ suits call (now (elements .entry)) ⌝ }
+// Whether a call takes these elements: a reading takes words of its dialect's width, and a writing any.
+fn suits(call: Call, dialect: Dialect, elements: &[u32]) -> bool
+    ensures { λ r. ⌜ r ≡ suits call dialect (now (elements .entry)) ⌝ }
 {
-    match call {
-        Call::WriteS => true,
-        Call::WriteF => true,
-        Call::ReadS => all_words16(elements),
-        Call::ReadF => true,
+    let Call::Read = call else {
+        return true;
+    };
+    if dialects::width(dialect) != 16 {
+        return true;
     }
+    all_words16(elements)
 }
 
 fn all_words16(elements: &[u32]) -> bool
@@ -158,7 +162,7 @@ fn expand(input: &[u8], place: usize, runs: usize, elements: &mut [u32]) -> Expa
         }
         repeat_row(elements, count, times, row_of(run));
         count += times;
-        next += 45;
+        next += LINE_BYTES;
         left -= 1;
     }
     Expanded::Rows { count, next }

@@ -2,6 +2,7 @@
 use borrow.Author.Needs.{needs}
 use mathlib.Core.Path.{sym}
 use lib.Seq.{length-take-le}
+use Rattle.run_vectors.specs.Vectors.{mostElements}
 use Rattle.run_vectors.proofs.WordLaws.{take-within}
 use Rattle.run_vectors.proofs.calls.run.Statement.{statement}
 use Rattle.run_vectors.proofs.calls.run.Tie as tie
@@ -13,17 +14,9 @@ run-spec =
     (λ c. search needs)
     (λ c. sym (length-take-le _ _ (search needs)))
     (λ c. search needs)
-    (λ c κs. take-within (c .before .before .before .before .before .args .vector .room) 16800 _ (search needs))
+    (λ c κs. take-within (c .before .before .before .before .before .args .vector .room) mostElements _ (search needs))
     (λ c. search needs)
     (λ c κs. search needs)
-    (λ c. search needs)
-    (λ c κs. search needs)
-    (λ c. search needs)
-    (λ c κs. search needs)
-    (λ c. search needs)
-    (λ c. search needs)
-    (λ c. search needs)
-    (λ c. search needs)
     (λ c. search needs)
     (λ c. search needs)
     (λ c. search needs)

@@ -5,7 +5,10 @@ use Rattle.run_vectors.proofs.lines.five_numbers.Tie as tie
 
 returns : tie.Need-returns
 returns c =
-    rw (c .before .before .before .before .number .ensures, c .before .before .before .number2 .ensures, c .before .before .number3 .ensures, c .before .number4 .ensures, c .number5 .ensures)
+    let four : tie.After-number-at4 = c .before in
+    let three : tie.After-number-at3 = four .before in
+    let two : tie.After-number-at2 = three .before in
+    rw (two .before .number-at .ensures, two .number-at2 .ensures, three .number-at3 .ensures, four .number-at4 .ensures, c .number-at5 .ensures)
 
 pub five-numbers-spec : {M : Type 1} → statement M
 five-numbers-spec =

@@ -1,7 +1,8 @@
 -- `vectors::all_words16` meets its contract. The invariant: all are words where those that are left are. Assumes nothing.
 use borrow.Author.Needs.{needs}
-use Prim.Native.Nat.{_-_, _≤_}
+use Prim.Native.Nat.{ℕ, _-_, _≤_}
 use mathlib.Core.Path.{_≡_, refl, sym, _∙_}
+use mathlib.Core.List.{List}
 use lib.ListN.{length, drop}
 use Rattle.run_vectors.specs.Vectors.{allWords16}
 use Rattle.run_vectors.proofs.WordLaws.{next-wide, next-word, no-more}
@@ -14,14 +15,21 @@ Inv-loop elements i₀ i = (i ≤ length elements) × (allWords16 elements ≡ a
 abbrev μ-loop : tie.MeasureT-loop
 μ-loop elements i₀ i = length elements - i
 
+-- the elements, and where a turn begins
+abbrev all : tie.At-loop Inv-loop μ-loop → List ℕ
+all c = c .before .args .elements .now
+
+abbrev turn : tie.After-shared-slice-known Inv-loop μ-loop → tie.At-loop Inv-loop μ-loop
+turn c = c .before .before
+
 returns : tie.Need-returns Inv-loop μ-loop
-returns c = sym (c .before .before .before .loop .inv .1 ∙ next-wide (c .before .before .before .before .args .elements .now) (c .before .before .before .loop .i) (search needs) (c .if1 .taken))
+returns c = let l = turn (c .before) in sym (l .loop .inv .1 ∙ next-wide (all l) (l .loop .i) (search needs) (c .if1 .taken))
 
 loop-again : tie.Need-loop-again Inv-loop μ-loop
-loop-again c = (search needs, c .before .before .before .loop .inv .1 ∙ next-word (c .before .before .before .before .args .elements .now) (c .before .before .before .loop .i) (search needs) (c .if1 .left))
+loop-again c = let l = turn (c .before) in (search needs, l .loop .inv .1 ∙ next-word (all l) (l .loop .i) (search needs) (c .if1 .left))
 
 returns-2 : tie.Need-returns-2 Inv-loop μ-loop
-returns-2 c = sym (c .before .loop .inv .1 ∙ no-more (c .before .before .args .elements .now) (c .before .loop .i) (search needs))
+returns-2 c = sym (c .before .loop .inv .1 ∙ no-more (all (c .before)) (c .before .loop .i) (search needs))
 
 pub all-words16-spec : {M : Type 1} → statement M
 all-words16-spec =

@@ -11,4 +11,5 @@ head-holds-spec =
     (tie.spec
     (λ c. search tests)
     (λ c. search tests)
+    (λ c. search tests)
     (λ c. search tests))

@@ -1,54 +1,72 @@
 -- `vectors::read_vector` meets its contract. Assumes nothing.
 use borrow.Author.Needs.{needs}
+use Prim.Native.Nat.{ℕ, _*_, _≤_}
 use mathlib.Core.Path.{sym, _∙_}
+use mathlib.Core.List.{List}
 use native.Mathlib.Omega.{arith}
+use lib.ListN.{length}
 use borrow.Author.Tests.{not-true, not-false}
-use Rattle.run_vectors.specs.Vectors.{vectorAt}
-use Rattle.run_vectors.proofs.RowLaws.{head-room, vector-within}
+use Rattle.run_vectors.proofs.RowLaws.{vector-no-line, vector-no-head, vector-no-runs, vector-runs, line-within, rows-within, head-room, vector-within}
 use Rattle.run_vectors.proofs.vectors.read_vector.Statement.{statement}
 use Rattle.run_vectors.proofs.vectors.read_vector.Tie as tie
 
+-- The places: where the head's line was read, where it was told, where it holds, and where the runs were expanded.
+abbrev line-read : tie.After-head → tie.After-read-line
+line-read c = c .before .before
+
+abbrev head-told : tie.After-head-holds → tie.After-head
+head-told c = c .before .before
+
+abbrev head-held : tie.After-expand → tie.Else1
+head-held c = c .before .before .before
+
+abbrev lent : tie.After-expand → List ℕ
+lent c = line-read (head-told (head-held c .before)) .before .before .before .args .elements .now
+
+abbrev runs-expanded : tie.After-expanded → tie.After-expand
+runs-expanded c = c .before .before .before .before
+
 returns : tie.Need-returns
-unfolding vectorAt
-returns c = (rw (sym (c .before .before .read-line .ensures .0) ∙ c .enum-told .given .1), tt)
+returns c = (sym (vector-no-line _ _ _ (sym (c .before .before .read-line .ensures .0) ∙ c .enum-told .given .1)), tt)
 
 returns-2 : tie.Need-returns-2
-unfolding vectorAt
-returns-2 c = (rw (sym (c .before .before .before .before .before .read-line .ensures .0) ∙ c .before .before .before .head .given .1, sym (c .before .head-holds .ensures) ∙ not-true _ (c .if1 .taken)), tt)
+returns-2 c =
+    let h = head-told (c .before) in
+    let told = sym (line-read h .read-line .ensures .0) ∙ h .head .given .1 in
+    (sym (vector-no-head _ _ _ told (sym (c .before .head-holds .ensures) ∙ not-true _ (c .if1 .taken))), tt)
 
 expand-requires : tie.Need-expand-requires
-expand-requires c κs = let h = rw (c .before .before .before .before .before .head .given .1) at (c .before .before .before .before .before .before .before .read-line .ensures .1) in h
+expand-requires c κs = let h = head-told (c .before .before .before) in line-within _ _ (h .head .given .1) (line-read h .read-line .ensures .1)
 
 returns-3 : tie.Need-returns-3
-unfolding vectorAt
-returns-3 c = (
-  rw (
-    sym (c .before .before .before .before .before .before .before .before .before .before .before .before .read-line .ensures .0) ∙ c .before .before .before .before .before .before .before .before .before .before .head .given .1,
-    sym (c .before .before .before .before .before .before .before .before .head-holds .ensures) ∙ not-false _ (c .before .before .before .before .before .before .before .if1 .left),
-    sym (c .before .before .before .before .expand .ensures .0),
-    c .enum-told2 .given .1,
-  ),
-  tt,
-)
+returns-3 c =
+    let e : tie.After-expand = c .before .before .before .before in
+    let held = head-held e in
+    let h = head-told (held .before) in
+    let told = sym (line-read h .read-line .ensures .0) ∙ h .head .given .1 in
+    let holds = sym (held .before .head-holds .ensures) ∙ not-false _ (held .if1 .left) in
+    (sym (vector-no-runs _ _ _ told holds (e .expand .ensures .0) (c .enum-told2 .given .1)), tt)
+
+-- no more elements are stored than there are
+rows-fit : (c : tie.After-expanded) → c .expanded .given .0 .0 * 4 ≤ length (lent (runs-expanded c))
+rows-fit c = let h = rows-within _ _ _ (c .expanded .given .1) (runs-expanded c .expand .ensures .1) in omega arith
 
 mul-vector-of : tie.Need-mul-vector-of
-mul-vector-of c = let h = rw (c .before .before .expanded .given .1) at (c .before .before .before .before .before .before .expand .ensures .1) in omega arith
+mul-vector-of c = omega (arith, rows-fit (c .before .before))
 
 vector-of-requires : tie.Need-vector-of-requires
-vector-of-requires c κs = let h = rw (c .before .before .expanded .given .1) at (c .before .before .before .before .before .before .expand .ensures .1) in search needs
+vector-of-requires c κs = omega (arith, rows-fit (c .before .before))
 
 returns-4 : tie.Need-returns-4
-unfolding vectorAt
 returns-4 c =
-    let h = rw (c .before .before .before .expanded .given .1) at (c .before .before .before .before .before .before .before .expand .ensures .1) in
-    let holds = sym (c .before .before .before .before .before .before .before .before .before .before .before .head-holds .ensures) ∙ not-false _ (c .before .before .before .before .before .before .before .before .before .before .if1 .left) in (
-      rw (
-        sym (c .before .before .before .before .before .before .before .before .before .before .before .before .before .before .before .read-line .ensures .0) ∙ c .before .before .before .before .before .before .before .before .before .before .before .before .before .head .given .1,
-        holds,
-        ← c .before .before .before .before .before .before .before .expand .ensures .0,
-        c .before .before .before .expanded .given .1,
-        c .vector-of .ensures,
-      ),
+    let x : tie.After-expanded = c .before .before .before in
+    let e = runs-expanded x in
+    let held = head-held e in
+    let h = head-told (held .before) in
+    let told = sym (line-read h .read-line .ensures .0) ∙ h .head .given .1 in
+    let holds = sym (held .before .head-holds .ensures) ∙ not-false _ (held .if1 .left) in
+    let w = rows-within _ _ _ (x .expanded .given .1) (e .expand .ensures .1) in (
+      rw (c .vector-of .ensures) (sym (vector-runs _ _ _ told holds (e .expand .ensures .0) (x .expanded .given .1))),
       rw (c .vector-of .ensures) (vector-within _ _ _ _ _ _ _ (omega arith) (omega arith) (head-room _ holds) (omega arith)),
     )
 

@@ -17,11 +17,13 @@ abbrev μ-loop : tie.MeasureT-loop
 μ-loop elements₀ at times row next₀ left₀ elements next left = left
 
 loop-again : tie.Need-loop-again Inv-loop μ-loop
-loop-again c = (
-  search needs,
-  search needs,
-  c .before .before .before .before .before .loop .inv .2 ∙ repeat-next _ _ _ (c .before .before .before .before .before .loop .left) (search needs) ∙ rw (c .before .before .store-row .ensures),
-)
+loop-again c =
+    let s : tie.After-store-row Inv-loop μ-loop = c .before .before in
+    let l : tie.At-loop Inv-loop μ-loop = s .before .before .before in (
+      search needs,
+      search needs,
+      l .loop .inv .2 ∙ repeat-next _ _ _ (l .loop .left) (search needs) ∙ rw (s .store-row .ensures),
+    )
 
 returns : tie.Need-returns Inv-loop μ-loop
 returns c = sym (c .before .loop .inv .2 ∙ repeat-none _ _ _ (c .before .loop .left) (search needs))

@@ -1,15 +1,14 @@
--- `calls::read_s` meets its contract. Assumes nothing.
+-- `calls::read` meets its contract. Assumes nothing.
 use borrow.Author.Needs.{needs}
 use mathlib.Core.Path.{sym}
 use lib.Seq.{length-take-le}
-use Rattle.run_vectors.proofs.calls.read_s.Statement.{statement}
-use Rattle.run_vectors.proofs.calls.read_s.Tie as tie
+use Rattle.run_vectors.proofs.calls.read.Statement.{statement}
+use Rattle.run_vectors.proofs.calls.read.Tie as tie
 
-pub read-s-spec : {M : Type 1} → statement M
-read-s-spec =
+pub read-spec : {M : Type 1} → statement M
+read-spec =
     tie.close
     (tie.spec
-    (λ c κs. search needs)
     (λ c. search needs)
     (λ c κs. search needs)
     (λ c. search needs)
