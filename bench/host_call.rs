@@ -1,13 +1,21 @@
 //! The check of bytes, as C calls it.
 
-use crate::calls::{proved_host, second_host};
+use crate::calls;
 use crate::events::Events;
-use crate::host::HostCall;
 use crate::timing::{rounds, ROUNDS};
+use second::host::{packed, HostCall};
 use std::hint::black_box;
 
 const PROVED: usize = 0;
 const SECOND: usize = 1;
+
+fn answer(which: usize, call: &HostCall) -> u64 {
+    if which == PROVED {
+        calls::host(&call.bytes)
+    } else {
+        packed(call.answer())
+    }
+}
 
 pub fn table_row(name: &str, events: &Events<u16>, times: usize) {
     let mut calls = Vec::new();
@@ -18,11 +26,11 @@ pub fn table_row(name: &str, events: &Events<u16>, times: usize) {
         });
     });
     for call in &calls {
-        assert_eq!(proved_host(&call.bytes), second_host(call), "answers");
+        assert_eq!(answer(PROVED, call), answer(SECOND, call), "answers");
     }
     let measured = rounds(ROUNDS, 2, |which| {
         for call in (0..times).flat_map(|_| &calls) {
-            black_box(if which == PROVED { proved_host(&call.bytes) } else { second_host(call) });
+            black_box(answer(which, call));
         }
     });
     let made = times as f64;

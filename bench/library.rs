@@ -1,8 +1,10 @@
 //! Reading and writing, the proved, the second reader's, and a plain copy of the same words and rows.
 
-use crate::calls::Calls;
-use crate::events::Events;
+use crate::calls::Word;
+use crate::events::{Events, ORDER};
 use crate::timing::{rounds, Times, ROUNDS};
+use second::base::Answer;
+use second::dialects::{Dialect, Functions};
 use std::hint::black_box;
 
 /// The works of a table, by their places in `Times`.
@@ -15,35 +17,46 @@ const SECOND_WRITE: usize = 5;
 const COPY: usize = 6;
 const WORKS: usize = 7;
 
-/// Room for the rows, and the words, of any event.
+/// Room for the rows, and the words, of any event of the dialect: no event has more rows than words.
 struct Room<W> {
     rows: Vec<u32>,
     words: Vec<W>,
 }
 
-pub struct Comparison<W> {
-    proved: Calls<W>,
-    second: Calls<W>,
+/// One dialect, with the second reader's functions of it, which are behind pointers and so not inlined, like the proved ones.
+pub struct Comparison<W: 'static> {
+    dialect: &'static Dialect,
+    number: u32,
+    second: &'static Functions<W>,
 }
 
-impl<W: Copy + Default + PartialEq> Comparison<W> {
-    pub fn new(proved: Calls<W>, second: Calls<W>) -> Comparison<W> {
-        Comparison { proved, second }
+fn number_of(answer: Answer) -> usize {
+    answer.unwrap_or_else(|refusal| refusal.place) as usize
+}
+
+impl<W: Word> Comparison<W> {
+    pub fn new(dialect: &'static Dialect, second: &'static Functions<W>) -> Comparison<W> {
+        Comparison { dialect, number: dialect.number() as u32, second }
     }
 
-    fn room() -> Room<W> {
-        Room { rows: vec![0; 4 * 4096], words: vec![W::default(); 4096] }
+    fn room(&self) -> Room<W> {
+        let most = self.dialect.largest_event;
+        Room { rows: vec![0; 4 * most], words: vec![W::default(); most] }
     }
 
     /// Both give each event's rows, and its words back, before anything is timed. A check needs as many rows as are read.
     pub fn agree(&self, events: &Events<W>) {
-        let mut room = Self::room();
+        let mut room = self.room();
+        let sides = [[READ, CHECK, WRITE], [SECOND_READ, SECOND_CHECK, SECOND_WRITE]];
         events.for_each(0, events.count(), |words, rows| {
-            for calls in [self.proved, self.second] {
-                assert_eq!((calls.read)(words, &mut room.rows), rows.len() / 4, "rows counted");
+            for [read, check, write] in sides {
+                let count = self.work(read, &mut room, words, rows);
+                assert_eq!(count, rows.len() / 4, "rows counted");
                 assert!(room.rows[..rows.len()] == *rows, "rows");
-                assert_eq!((calls.read)(words, &mut []), rows.len() / 4, "rows needed");
-                assert_eq!((calls.write)(rows, &mut room.words), words.len(), "words counted");
+                let count = self.work(check, &mut room, words, rows);
+                assert_eq!(count, rows.len() / 4, "rows needed");
+                let count = self.work(write, &mut room, words, rows);
+                assert_eq!(count, words.len(), "words counted");
                 assert!(room.words[..words.len()] == *words, "words");
             }
         });
@@ -51,12 +64,12 @@ impl<W: Copy + Default + PartialEq> Comparison<W> {
 
     fn work(&self, which: usize, room: &mut Room<W>, words: &[W], rows: &[u32]) -> usize {
         match which {
-            CHECK => (self.proved.read)(words, &mut []),
-            READ => (self.proved.read)(words, &mut room.rows),
-            WRITE => (self.proved.write)(rows, &mut room.words),
-            SECOND_CHECK => (self.second.read)(words, &mut []),
-            SECOND_READ => (self.second.read)(words, &mut room.rows),
-            SECOND_WRITE => (self.second.write)(rows, &mut room.words),
+            CHECK => W::read(self.number, words, &mut []),
+            READ => W::read(self.number, words, &mut room.rows),
+            WRITE => W::write(self.number, rows, &mut room.words),
+            SECOND_CHECK => number_of(self.second.read(words, ORDER, &mut [])),
+            SECOND_READ => number_of(self.second.read(words, ORDER, &mut room.rows)),
+            SECOND_WRITE => number_of(self.second.write(rows, ORDER, &mut room.words)),
             _ => {
                 room.words[..words.len()].copy_from_slice(words);
                 room.rows[..rows.len()].copy_from_slice(rows);
@@ -68,7 +81,7 @@ impl<W: Copy + Default + PartialEq> Comparison<W> {
 
     /// A table row: the set's make-up, and the times by word and as ratios. The events are gone through `times` times a round.
     pub fn table_row(&self, name: &str, events: &Events<W>, times: usize) {
-        let mut room = Self::room();
+        let mut room = self.room();
         let measured = rounds(ROUNDS, WORKS, |which| {
             for _ in 0..times {
                 events.for_each(0, events.count(), |words, rows| {
@@ -88,7 +101,7 @@ impl<W: Copy + Default + PartialEq> Comparison<W> {
 
     /// The times by word of one pass over so many events, from different places of the set, so that no pass repeats the one before.
     pub fn growth_row(&self, name: &str, events: &Events<W>, count: usize) {
-        let mut room = Self::room();
+        let mut room = self.room();
         let mut at = 0;
         let mut words = 0;
         // Short passes differ more from each other.

@@ -1,9 +1,9 @@
 //! The line program, the second reader's, and a plain copy of the lines and the listing.
 
-use crate::base::Words;
-use crate::rng::Rng;
 use crate::timing::{rounds, ROUNDS};
-use crate::{lines, make_f, make_s};
+use second::dialects::DIALECTS;
+use second::lines::line_of;
+use second::rng::Rng;
 use std::fs::File;
 use std::io::{BufWriter, Write};
 use std::process::{Command, Stdio};
@@ -14,17 +14,14 @@ const PROVED: [&str; 1] = ["target/bin/list_events"];
 const SECOND: [&str; 2] = ["target/second/second", "list"];
 const COPY: [&str; 3] = ["cat", LINES, LISTING];
 
-/// The lines of so many events, S and F by turns, up to so many bytes; answers the lines and the bytes.
+/// The lines of so many events, the dialects by turns, up to so many bytes; answers the lines and the bytes.
 fn make_lines(most_lines: usize, most_bytes: usize) -> (usize, usize) {
     let mut rng = Rng::new(7);
     let mut file = BufWriter::new(File::create(LINES).expect("target/bench is there"));
     let (mut count, mut bytes) = (0, 0);
     while count < most_lines && bytes < most_bytes {
-        let words = match count % 2 {
-            0 => Words::S(make_s::event_of(&make_s::event(&mut rng))),
-            _ => Words::F(make_f::event_of(&make_f::event(&mut rng))),
-        };
-        let mut line = lines::line_of(&words);
+        let dialect = DIALECTS[count % DIALECTS.len()];
+        let mut line = line_of(dialect, &dialect.mixed(&mut rng));
         line.push(b'\n');
         file.write_all(&line).expect("the lines are written");
         count += 1;

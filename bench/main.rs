@@ -8,45 +8,11 @@ mod library;
 mod line_program;
 mod timing;
 
-// The second reader's files, of which not all is used here.
-#[allow(dead_code)]
-#[path = "../second/base.rs"]
-mod base;
-#[path = "../second/cursor.rs"]
-mod cursor;
-#[allow(dead_code)]
-#[path = "../second/damage_s.rs"]
-mod damage_s;
-#[allow(dead_code)]
-#[path = "../second/host.rs"]
-mod host;
-#[allow(dead_code)]
-#[path = "../second/lines.rs"]
-mod lines;
-#[path = "../second/make_f.rs"]
-mod make_f;
-#[allow(dead_code)]
-#[path = "../second/make_s.rs"]
-mod make_s;
-#[allow(dead_code)]
-#[path = "../second/read_f.rs"]
-mod read_f;
-#[path = "../second/read_s.rs"]
-mod read_s;
-#[allow(dead_code)]
-#[path = "../second/rng.rs"]
-mod rng;
-#[allow(dead_code)]
-#[path = "../second/tags.rs"]
-mod tags;
-#[path = "../second/write_f.rs"]
-mod write_f;
-#[path = "../second/write_s.rs"]
-mod write_s;
-
-use calls::{PROVED_F, PROVED_S, SECOND_F, SECOND_S};
-use events::{MakeUp, MAKE_UPS};
+use calls::Word;
+use events::{Events, MakeUp, MAKE_UPS};
 use library::Comparison;
+use second::dialects::{Dialect, Functions, Native, DIALECTS};
+use second::host;
 
 /// Bytes of words that fit the second level cache with their rows, and 100 MB of them.
 const CACHED: usize = 64 << 10;
@@ -66,18 +32,27 @@ fn library_tables() {
     println!("| set | events | words | rows | check | fill | read | write | copy | check/second | read/second | write/second | read/copy | write/copy |");
     println!("|---|---|---|---|---|---|---|---|---|---|---|---|---|---|");
     for (bytes, times) in [(CACHED, CACHED_TIMES), (LARGE, 1)] {
-        for make_up in MAKE_UPS {
-            let events = events::of_s(make_up, usize::MAX, bytes / 2);
-            let comparison = Comparison::new(PROVED_S, SECOND_S);
-            comparison.agree(&events);
-            comparison.table_row(&format!("S {make_up:?}, {}", size(bytes)), &events, times);
+        for dialect in DIALECTS {
+            match dialect.native {
+                Native::Bits16(functions) => library_rows(dialect, functions, bytes, times),
+                Native::Bits32(functions) => library_rows(dialect, functions, bytes, times),
+            }
         }
-        for make_up in MAKE_UPS {
-            let events = events::of_f(make_up, usize::MAX, bytes / 4);
-            let comparison = Comparison::new(PROVED_F, SECOND_F);
-            comparison.agree(&events);
-            comparison.table_row(&format!("F {make_up:?}, {}", size(bytes)), &events, times);
-        }
+    }
+}
+
+fn library_rows<W: Word>(
+    dialect: &'static Dialect,
+    functions: &'static Functions<W>,
+    bytes: usize,
+    times: usize,
+) {
+    for make_up in MAKE_UPS {
+        let events = Events::made(functions, make_up, usize::MAX, bytes / size_of::<W>());
+        let comparison = Comparison::new(dialect, functions);
+        comparison.agree(&events);
+        let name = format!("{} {make_up:?}, {}", dialect.letter, size(bytes));
+        comparison.table_row(&name, &events, times);
     }
 }
 
@@ -93,13 +68,18 @@ fn growth_tables() {
     println!("\n## Growth: one pass over so many mixed events\n");
     println!("| dialect | events | check | fill | read | write | copy | check/second | read/second | write/second | read/copy | write/copy |");
     println!("|---|---|---|---|---|---|---|---|---|---|---|---|");
-    let events = events::of_s(MakeUp::Mixed, MANY, usize::MAX);
-    for count in [1_000, 10_000, 100_000, MANY] {
-        Comparison::new(PROVED_S, SECOND_S).growth_row("S", &events, count);
+    for dialect in DIALECTS {
+        match dialect.native {
+            Native::Bits16(functions) => growth_rows(dialect, functions),
+            Native::Bits32(functions) => growth_rows(dialect, functions),
+        }
     }
-    let events = events::of_f(MakeUp::Mixed, MANY, usize::MAX);
+}
+
+fn growth_rows<W: Word>(dialect: &'static Dialect, functions: &'static Functions<W>) {
+    let events = Events::made(functions, MakeUp::Mixed, MANY, usize::MAX);
     for count in [1_000, 10_000, 100_000, MANY] {
-        Comparison::new(PROVED_F, SECOND_F).growth_row("F", &events, count);
+        Comparison::new(dialect, functions).growth_row(&dialect.letter.to_string(), &events, count);
     }
 }
 
@@ -108,8 +88,9 @@ fn host_table() {
     println!("| set | events | ns a call | ns a word | host/second |");
     println!("|---|---|---|---|---|");
     for make_up in MAKE_UPS {
-        let events = events::of_s(make_up, usize::MAX, CACHED / 2);
-        host_call::table_row(&format!("S {make_up:?}, 64 KiB"), &events, CACHED_TIMES);
+        let events = Events::made(&host::FUNCTIONS, make_up, usize::MAX, CACHED / size_of::<u16>());
+        let name = format!("{} {make_up:?}, 64 KiB", host::DIALECT.letter);
+        host_call::table_row(&name, &events, CACHED_TIMES);
     }
 }
 

@@ -1,4 +1,4 @@
-//! What both dialects share: rows, refusals, stamp order, channel sets and lent room.
+//! What the dialects share: rows, refusals, stamp order, channel sets and lent room.
 
 /// A row: kind, unit, channel, datum (01, "Rows").
 pub type Row = [u32; 4];
@@ -25,6 +25,9 @@ pub enum Order {
 }
 
 impl Order {
+    /// Where no order is given (01, "Two dialects").
+    pub const DEFAULT: Order = Order::Crossed;
+
     /// For each chunk of the packet, the lowest stamp bit that it holds.
     pub fn shifts(self) -> [u32; 4] {
         match self {
@@ -32,13 +35,6 @@ impl Order {
             Order::Rising => [0, 16, 32, 48],
         }
     }
-}
-
-/// Words of one event, or of what stands in for one, with its dialect.
-#[derive(Clone, PartialEq, Eq, Debug)]
-pub enum Words {
-    S(Vec<u16>),
-    F(Vec<u32>),
 }
 
 /// Channels (or GEOs) already met, each below 32.
@@ -69,11 +65,8 @@ pub fn fill_rows(rows: &[Row], room: &mut [u32]) -> Answer {
     Ok(rows.len() as u32)
 }
 
-/// The end of a writing: refusal 23, then 24, or the words go into the lent words.
-pub fn fill_words<W: Copy>(words: &[W], largest_event: usize, room: &mut [W]) -> Answer {
-    if words.len() > largest_event {
-        return refuse(23, words.len());
-    }
+/// The end of a writing: refusal 24, or the words go into the lent words.
+pub fn fill_words<W: Copy>(words: &[W], room: &mut [W]) -> Answer {
     if words.len() > room.len() {
         return refuse(24, words.len());
     }

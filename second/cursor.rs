@@ -29,13 +29,17 @@ impl<'a> Cursor<'a> {
         self.row().is_some_and(|row| row[0] == kind)
     }
 
+    // Out of line, `take` and `take_if` make a writing of many rows up to 2.9 times slower.
+
     /// The next row, which must be of this kind. Else 21; where the rows have ended the place
     /// is the row count, which is the index of the next row as well.
+    #[inline]
     pub fn take(&mut self, kind: u32) -> Result<Row, Refusal> {
         self.take_if(|row| row[0] == kind)
     }
 
     /// The next row, of whose kind and tag the test says whether they may stand there.
+    #[inline]
     pub fn take_if(&mut self, may_stand: impl Fn(&Row) -> bool) -> Result<Row, Refusal> {
         match self.row() {
             Some(row) if may_stand(&row) => {

@@ -2,9 +2,10 @@
 //! stamp order go in, one 64-bit number comes out.
 
 use crate::base::{refuse, Answer, Order};
+use crate::dialects::s800::make;
+pub use crate::dialects::s800::{DIALECT, FUNCTIONS};
 use crate::lines::push_hex;
 use crate::rng::Rng;
-use crate::{damage_s, make_s, read_s};
 
 pub struct HostCall {
     pub order: u32,
@@ -23,20 +24,22 @@ impl HostCall {
         }
         let pairs = self.bytes.chunks_exact(2);
         let words: Vec<u16> = pairs.map(|pair| u16::from_le_bytes([pair[0], pair[1]])).collect();
-        read_s::rows_of(&words, order).map(|rows| rows.len() as u32)
+        (FUNCTIONS.rows_of)(&words, order).map(|rows| rows.len() as u32)
     }
 
     /// The call as a line of text: the order, then the bytes, `-` for none.
-    pub fn push_text(&self, text: &mut Vec<u8>) {
-        push_hex(text, self.order, 8);
+    pub fn text(&self) -> Vec<u8> {
+        let mut text = Vec::with_capacity(2 * self.bytes.len() + 11);
+        push_hex(&mut text, self.order, 8);
         text.push(b' ');
         for &byte in &self.bytes {
-            push_hex(text, u32::from(byte), 2);
+            push_hex(&mut text, u32::from(byte), 2);
         }
         if self.bytes.is_empty() {
             text.push(b'-');
         }
         text.push(b'\n');
+        text
     }
 
     /// The answer as a line of text, which is given back too.
@@ -64,10 +67,10 @@ fn bytes_of(words: &[u16]) -> Vec<u8> {
 
 /// An event or a damaged one, its bytes as they are or damaged too, mostly with a known order.
 pub fn random(rng: &mut Rng) -> HostCall {
-    let packets = make_s::event(rng);
+    let packets = (FUNCTIONS.mixed)(rng);
     let words = match rng.below(10) {
-        0..=3 => make_s::event_of(&packets),
-        _ => damage_s::damaged(rng, packets),
+        0..=3 => (FUNCTIONS.event_of)(&packets),
+        _ => (FUNCTIONS.damaged)(rng, packets),
     };
     let mut bytes = bytes_of(&words);
     damage(rng, &mut bytes);
@@ -97,11 +100,11 @@ fn damage(rng: &mut Rng, bytes: &mut Vec<u8>) {
 /// No bytes, one, the sizes about the smallest and the largest event, with each order at an edge.
 pub fn edges() -> Vec<HostCall> {
     let mut rng = Rng::new(1);
-    let event =
-        make_s::event_of(&[make_s::stamp_packet(&mut rng), make_s::event_number_packet(&mut rng)]);
-    let filling = vec![0; read_s::LARGEST_EVENT - event.len() - 2];
-    let packets = [event[3..9].to_vec(), event[9..].to_vec(), make_s::packet(0x5830, &filling)];
-    let largest = bytes_of(&make_s::event_of(&packets));
+    let mut packets = (FUNCTIONS.smallest)(&mut rng);
+    let event = (FUNCTIONS.event_of)(&packets);
+    let filling = vec![0; DIALECT.largest_event - event.len() - 2];
+    packets.push(make::packet(0x5830, &filling));
+    let largest = bytes_of(&(FUNCTIONS.event_of)(&packets));
     let mut calls = Vec::new();
     for order in [0, 1, 2, u32::MAX] {
         for size in [0, 1, 26, 27, 28, 29, 30] {
@@ -121,8 +124,6 @@ pub fn edges() -> Vec<HostCall> {
 /// The edges and some random calls, as lines of text.
 pub fn calls_text() -> Vec<u8> {
     let mut rng = Rng::new(1);
-    let mut text = Vec::new();
-    edges().iter().for_each(|call| call.push_text(&mut text));
-    (0..300).for_each(|_| random(&mut rng).push_text(&mut text));
-    text
+    let random = (0..300).map(|_| random(&mut rng));
+    edges().into_iter().chain(random).flat_map(|call| call.text()).collect()
 }

@@ -1,7 +1,7 @@
 //! The hexadecimal lines and the listing (01, "The hexadecimal lines").
 
-use crate::base::{refuse, Answer, Order, Refusal, Row, Words};
-use crate::{read_f, read_s};
+use crate::base::{refuse, Answer, Order, Refusal, Row};
+use crate::dialects::{Dialect, Words, DIALECTS};
 
 /// The most characters (bytes) before the line feed.
 pub const LONGEST_LINE: usize = 20_481;
@@ -12,10 +12,10 @@ pub fn words_of_line(line: &[u8]) -> Result<Words, Refusal> {
     if line.len() > LONGEST_LINE {
         return refuse(30, 0);
     }
-    match line.split_first() {
-        Some((b'S', rest)) => Ok(Words::S(numbers(rest, 4)?.iter().map(|&n| n as u16).collect())),
-        Some((b'F', rest)) => Ok(Words::F(numbers(rest, 8)?)),
-        _ => refuse(30, 0),
+    let Some((&letter, rest)) = line.split_first() else { return refuse(30, 0) };
+    match DIALECTS.into_iter().find(|dialect| dialect.letter as u8 == letter) {
+        Some(dialect) => Ok(Words { dialect, words: numbers(rest, dialect.digits())? }),
+        None => refuse(30, 0),
     }
 }
 
@@ -44,43 +44,29 @@ fn digit_value(character: u8) -> Result<u32, Refusal> {
 }
 
 /// The line of some words, without line feed.
-pub fn line_of(words: &Words) -> Vec<u8> {
-    let mut line = Vec::new();
-    match words {
-        Words::S(words) => {
-            line.push(b'S');
-            for &word in words {
-                line.push(b' ');
-                push_hex(&mut line, u32::from(word), 4);
-            }
-        }
-        Words::F(words) => {
-            line.push(b'F');
-            for &word in words {
-                line.push(b' ');
-                push_hex(&mut line, word, 8);
-            }
-        }
+pub fn line_of(dialect: &Dialect, words: &[u32]) -> Vec<u8> {
+    let mut line = Vec::with_capacity(words.len() * (dialect.digits() + 1) + 1);
+    line.push(dialect.letter as u8);
+    for &word in words {
+        line.push(b' ');
+        push_hex(&mut line, word, dialect.digits());
     }
     line
 }
 
-pub fn push_hex(text: &mut Vec<u8>, number: u32, digits: u32) {
+/// The most words of a line.
+pub fn most_words(dialect: &Dialect) -> usize {
+    LONGEST_LINE / (dialect.digits() + 1)
+}
+
+pub fn push_hex(text: &mut Vec<u8>, number: u32, digits: usize) {
     for place in (0..digits).rev() {
         text.push(b"0123456789abcdef"[(number >> (4 * place) & 15) as usize]);
     }
 }
 
-/// The rows of an event of either dialect, room being no matter.
-pub fn rows_of(words: &Words, order: Order) -> Result<Vec<Row>, Refusal> {
-    match words {
-        Words::S(words) => read_s::rows_of(words, order),
-        Words::F(words) => read_f::rows_of(words),
-    }
-}
-
-/// Lists a whole input. Each line's dialect, if it has the form of a line, and its answer are
-/// given to `note` as well.
+/// Lists a whole input. Each line's words, if it has the form of a line, and its answer are given
+/// to `note` as well.
 pub fn list(
     input: &[u8],
     order: Order,
@@ -120,7 +106,7 @@ fn list_line(
     note: &mut dyn FnMut(Option<&Words>, Answer),
 ) -> Answer {
     let words = words_of_line(line);
-    let rows = words.as_ref().map_err(|&refusal| refusal).and_then(|words| rows_of(words, order));
+    let rows = words.as_ref().map_err(|&refusal| refusal).and_then(|words| words.rows(order));
     output.extend_from_slice(b"event ");
     push_hex(output, number as u32, 8);
     match &rows {

@@ -1,37 +1,8 @@
-//! An independent second reader and writer of dialects S and F, written from documents 01 and 02
-//! and the source documents, with a generator and a comparison against the project's programs.
+//! The program over the library: its commands.
 
-mod base;
-mod cases;
-mod check;
-mod check_made;
-mod child;
-mod compare;
-mod cursor;
-mod damage_f;
-mod damage_line;
-mod damage_rows;
-mod damage_s;
-mod difference;
-mod edges_f;
-mod edges_order;
-mod edges_s;
-mod host;
-mod limits;
-mod lines;
-mod make_f;
-mod make_s;
-mod probes;
-mod read_f;
-mod read_s;
-mod rng;
-mod stored;
-mod tags;
-mod tally;
-mod vectors;
-mod write_f;
-mod write_s;
-
+use second::base::Order;
+use second::tally::Tally;
+use second::{check, compare, host, lines, stored, vectors};
 use std::io::{Read, Write};
 use std::process::ExitCode;
 
@@ -47,14 +18,17 @@ fn main() -> ExitCode {
     let arguments: Vec<String> = std::env::args().skip(1).collect();
     let words: Vec<&str> = arguments.iter().map(String::as_str).collect();
     let outcome = match words.as_slice() {
-        ["list"] | ["list", "crossed"] => list(base::Order::Crossed),
-        ["list", "rising"] => list(base::Order::Rising),
+        ["list"] => list(Order::DEFAULT),
+        ["list", "crossed"] => list(Order::Crossed),
+        ["list", "rising"] => list(Order::Rising),
         ["answer"] => answer(),
         ["stored", "lines"] => put_out(&stored::lines()),
         ["stored", "vectors"] => put_out(&stored::vectors()),
         ["hosts"] => put_out(&host::calls_text()),
-        ["met", "lines"] => met_lines(),
-        ["met", "vectors"] => met_vectors(),
+        ["met", "lines"] => put_out(Tally::of_lines(&stored::lines()).report().as_bytes()),
+        ["met", "vectors"] => {
+            Tally::of_vectors(&stored::vectors()).and_then(|met| put_out(met.report().as_bytes()))
+        }
         ["compare", options @ ..] => settings(options).and_then(|s| compare::run(&s)),
         ["check"] => check::run(),
         _ => Err(USAGE.to_string()),
@@ -79,41 +53,19 @@ fn take_in() -> Result<Vec<u8>, String> {
     Ok(input)
 }
 
-fn list(order: base::Order) -> Result<(), String> {
+fn list(order: Order) -> Result<(), String> {
     let mut output = Vec::new();
     lines::list(&take_in()?, order, &mut output, &mut |_, _| {});
     put_out(&output)
 }
 
-fn vectors_of(text: Vec<u8>) -> Result<Vec<vectors::Vector>, String> {
-    vectors::parse(&String::from_utf8(text).map_err(|error| error.to_string())?)
-}
-
 fn answer() -> Result<(), String> {
     let mut output = Vec::new();
-    for vector in vectors_of(take_in()?)? {
+    for vector in vectors::parse(&take_in()?)? {
         // The answer itself is only put out.
         let _ = vector.push_answer(&mut output);
     }
     put_out(&output)
-}
-
-/// Prints how often each refusal is met in the stored lines.
-fn met_lines() -> Result<(), String> {
-    let mut tally = tally::Tally::new();
-    let mut note = |words: Option<&base::Words>, answer| tally.add_line(words, answer);
-    lines::list(&stored::lines(), base::Order::Crossed, &mut Vec::new(), &mut note);
-    put_out(tally.report().as_bytes())
-}
-
-/// Prints how often each refusal is met in the stored vectors.
-fn met_vectors() -> Result<(), String> {
-    let mut tally = tally::Tally::new();
-    for vector in vectors_of(stored::vectors())? {
-        let answer = vector.push_answer(&mut Vec::new());
-        tally.add_call(vector.call, answer);
-    }
-    put_out(tally.report().as_bytes())
 }
 
 fn settings(options: &[&str]) -> Result<compare::Settings, String> {

@@ -1,82 +1,36 @@
 //! `stored lines` and `stored vectors`: the stored inputs, made with a fixed seed.
 
-use crate::base::{Order, Row, Words};
+use crate::base::Order;
+use crate::dialects::{Words, DIALECTS};
+use crate::generate::{cases, damage_line, line_edges, probes};
+use crate::lines::{line_of, LONGEST_LINE};
 use crate::rng::Rng;
-use crate::tags::{self, kind};
-use crate::vectors::{Call, Vector};
-use crate::{cases, damage_line, edges_f, edges_order, edges_s, lines, make_s, probes, read_s};
+use crate::vectors::Vector;
 
 const SEED: u64 = 5803;
 const RANDOM_LINES: usize = 600;
+/// Where the edges of all dialects have more bytes, some lines, or writings, are left out.
+const LINE_EDGE_BYTES: usize = 600_000;
+const VECTOR_EDGE_BYTES: usize = 930_000;
+/// Random vectors follow the edges up to so many bytes.
 const VECTOR_BYTES: usize = 990_000;
-
-/// Short lines, most of them refused by 30.
-const BROKEN: [&str; 42] = [
-    "",
-    " ",
-    "S",
-    "F",
-    "S ",
-    "F ",
-    "s",
-    "f",
-    "R",
-    "W",
-    "SS",
-    "S\t0001",
-    "S  0001",
-    "S 0001 ",
-    " S 0001",
-    "S0001",
-    "S 001",
-    "S 00001",
-    "S 000g",
-    "S 000A",
-    "S 0001\r",
-    "S 0001  0002",
-    "S 00010002",
-    "S 0001\t0002",
-    "S -001",
-    "S +001",
-    "S 0x01",
-    "F 0001",
-    "F 000000010",
-    "S 00000001",
-    "F 0000000",
-    "F 0000000g",
-    "F 0000000F",
-    "S 0001\0",
-    "\0",
-    "S 000\u{e9}",
-    "S 000:",
-    "S 000/",
-    "S 000`",
-    "S 000@",
-    "S 000G",
-    "S\u{a0}0001",
-];
 
 /// 01's two lines, every edge, random lines, and a line too long at the end.
 pub fn lines() -> Vec<u8> {
     let mut rng = Rng::new(SEED);
     let mut text = Vec::new();
-    let mut put = |line: &[u8]| {
-        text.extend_from_slice(line);
-        text.push(b'\n');
-    };
-    put(&lines::line_of(&Words::S(edges_s::smallest())));
+    let mut put = |line: &[u8]| text.extend([line, b"\n"].concat());
+    put(&line_of(DIALECTS[0], &DIALECTS[0].edges().smallest));
     put(b"S 0001");
-    let s_events = [edges_s::layouts(), edges_s::tags_and_lengths(), edges_s::flips()].concat();
-    for words in s_events {
-        put(&lines::line_of(&Words::S(words)));
+    for line in thinned(event_lines(), LINE_EDGE_BYTES) {
+        put(&line);
     }
-    for words in [edges_f::layouts(), edges_f::flips()].concat() {
-        put(&lines::line_of(&Words::F(words)));
+    for dialect in DIALECTS {
+        for (_, words) in dialect.edges().two_faults {
+            put(&line_of(dialect, &words));
+        }
     }
-    for (_, words) in edges_order::events() {
-        put(&lines::line_of(&words));
-    }
-    for line in line_edges() {
+    for line in line_edges::all() {
         put(&line);
     }
     let mut left = RANDOM_LINES;
@@ -89,117 +43,81 @@ pub fn lines() -> Vec<u8> {
         }
     }
     put(&damage_line::longest(&mut rng));
-    put(&vec![b'S'; lines::LONGEST_LINE + 1]);
+    put(&vec![b'S'; LONGEST_LINE + 1]);
     put(b"S 0001");
     text
 }
 
-/// Short broken lines, and longer ones made from a good one.
-fn line_edges() -> Vec<Vec<u8>> {
-    let good = b"F 00000200 00f717ff 01f738e1 02f70563 32000001 0000002a 34000000";
-    let text = String::from_utf8_lossy(good).into_owned();
-    let mut lines: Vec<Vec<u8>> = BROKEN.iter().map(|line| line.as_bytes().to_vec()).collect();
-    lines.push(text.to_uppercase().into_bytes());
-    lines.push(text.replace(' ', "\t").into_bytes());
-    lines.push(text.replace('F', "S").into_bytes());
-    lines.push([good.as_slice(), b"\xff"].concat());
-    lines.push(b"\x80\xfe".to_vec());
-    // Of the right length, so that the byte itself is what is refused.
-    for line in [&b"S 000\xe9"[..], b"S\xa00001", b"S \xff001", b"S 00\xb10", b"F 0000000\xff"] {
-        lines.push(line.to_vec());
+/// The lines of all edges but those that break two rules at once.
+fn event_lines() -> Vec<Vec<u8>> {
+    let mut lines = Vec::new();
+    for dialect in DIALECTS {
+        let edges = dialect.edges();
+        let events = [edges.layouts, edges.headers, probes::flips(dialect)].concat();
+        lines.extend(events.iter().map(|words| line_of(dialect, words)));
     }
-    lines.push([b"F".as_slice(), &b" 00000000".repeat(2275)].concat());
-    lines.push(vec![b'0'; lines::LONGEST_LINE]);
     lines
 }
 
-/// Edges for all four calls in both orders, then random calls.
+/// Edges for all calls in both orders, then random calls.
 pub fn vectors() -> Vec<u8> {
     let mut rng = Rng::new(SEED);
-    let mut text = Vec::new();
-    let mut flip = Order::Crossed;
-    let mut other_order = || {
-        flip = if flip == Order::Crossed { Order::Rising } else { Order::Crossed };
-        flip
-    };
-    for vector in large_vectors() {
-        vector.push_text(&mut text);
-    }
-    for (call, probes) in [(Call::WriteS, probes::of_s()), (Call::WriteF, probes::of_f())] {
-        for elements in probes {
-            let room = rng.within(40, 60);
-            Vector { call, order: other_order(), room, elements }.push_text(&mut text);
-        }
-    }
-    let s_readings = edges_s::layouts().into_iter().filter(|words| words.len() < 100).map(Words::S);
-    let f_readings = edges_f::layouts().into_iter().filter(|words| words.len() < 100).map(Words::F);
-    let s_flips = edges_s::flips().into_iter().map(Words::S);
-    let f_flips = edges_f::flips().into_iter().map(Words::F);
-    let flips = s_flips.chain(f_flips).step_by(11);
-    let both_broken = edges_order::events().into_iter().map(|(_, words)| words);
-    for words in s_readings.chain(f_readings).step_by(3).chain(flips).chain(both_broken) {
-        cases::random_reading(&mut rng, &words).push_text(&mut text);
-    }
+    let large_readings = DIALECTS.iter().flat_map(|dialect| (dialect.large_readings)());
+    let large_writings = DIALECTS.iter().flat_map(|dialect| (dialect.large_writings)());
+    let large = large_readings.chain(large_writings).map(|vector| vector.text());
+    let mut text = large.collect::<Vec<_>>().concat();
+    let writings = edge_writings(&mut rng);
+    let readings = edge_readings(&mut rng).concat();
+    let left = VECTOR_EDGE_BYTES.saturating_sub(text.len() + readings.len());
+    text.extend(thinned(writings, left).concat());
+    text.extend(readings);
     while text.len() < VECTOR_BYTES {
         for vector in cases::random(&mut rng).vectors {
             if vector.elements.len() < 400 {
-                vector.push_text(&mut text);
+                text.extend(vector.text());
             }
         }
     }
     text
 }
 
-/// Smallest and largest events and row lists with the rooms around what they need.
-fn large_vectors() -> Vec<Vector> {
-    let mut vectors = Vec::new();
-    let opaque = |length: usize| make_s::packet(tags::OPAQUE[5], &vec![0; length - 2]);
-    let filled = |length: usize| edges_s::with(&[opaque(length)]);
-    for words in [edges_s::smallest(), filled(4082), filled(4083), filled(4081)] {
-        for order in [Order::Crossed, Order::Rising] {
-            let needed = 4 * read_s::rows_of(&words, order).map_or(8, |rows| rows.len());
-            for room in [needed - 4, needed - 1, needed, needed + 3, needed + 4, 0] {
-                vectors.push(cases::reading(&Words::S(words.clone()), order, room));
-            }
+/// Writings of the rows of small events, changed in one place, in both orders by turns.
+fn edge_writings(rng: &mut Rng) -> Vec<Vec<u8>> {
+    let mut texts = Vec::new();
+    for dialect in DIALECTS {
+        for elements in probes::row_lists(dialect) {
+            let room = rng.within(40, 60);
+            let order = [Order::Rising, Order::Crossed][texts.len() % 2];
+            texts.push(Vector::writing(dialect, order, room, elements).text());
         }
     }
-    let too_large = Words::F([edges_f::largest(), vec![0]].concat());
-    vectors.push(cases::reading(&too_large, Order::Crossed, 16_800));
-    for words in [edges_f::smallest(), edges_f::largest(), edges_f::every_block()] {
-        let words = Words::F(words);
-        let rows = lines::rows_of(&words, Order::Crossed).expect("an edge event is acceptable");
-        for room in [4 * rows.len() - 1, 4 * rows.len(), 4 * rows.len() + 5] {
-            vectors.push(cases::reading(&words, Order::Crossed, room));
-        }
-    }
-    vectors.extend(large_writings());
-    vectors
+    texts
 }
 
-/// Writings of S that need 14 and about 4,096 words, and of F that need 7 and 1,062.
-fn large_writings() -> Vec<Vector> {
-    let mut vectors = Vec::new();
-    let rows = read_s::rows_of(&edges_s::smallest(), Order::Crossed).expect("acceptable");
-    let head: Row = [kind::PACKET, u32::from(tags::OPAQUE[0]), 0, 0];
-    for words in [14, 16, 4095, 4096, 4097, 4098, 4198] {
-        let opaque = if words > 14 { words - 16 } else { 0 };
-        let mut elements = rows.concat();
-        elements.extend_from_slice(if words > 14 { &head } else { &[] });
-        elements.extend([kind::OPAQUE, 0, 0, 0xffff].repeat(opaque));
-        for room in [0, words - 1, words, words + 1, 4096, 16_800] {
-            let order = if room % 2 == 0 { Order::Crossed } else { Order::Rising };
-            vectors.push(Vector { call: Call::WriteS, order, room, elements: elements.clone() });
-        }
-        elements.extend([kind::TIME, 0, 4, 0]);
-        vectors.push(Vector { call: Call::WriteS, order: Order::Crossed, room: words, elements });
+/// Readings of some small edges, some flips, and all events that break two rules at once.
+fn edge_readings(rng: &mut Rng) -> Vec<Vec<u8>> {
+    let (mut layouts, mut flips, mut two_faults) = (vec![], vec![], vec![]);
+    for dialect in DIALECTS {
+        let edges = dialect.edges();
+        let given = |words: Vec<u32>| Words { dialect, words };
+        let small = edges.layouts.into_iter().filter(|words| words.len() < 100);
+        layouts.extend(small.map(given));
+        flips.extend(probes::flips(dialect).into_iter().map(given));
+        two_faults.extend(edges.two_faults.into_iter().map(|(_, words)| given(words)));
     }
-    for words in [edges_f::smallest(), edges_f::largest()] {
-        let count = words.len();
-        let rows = lines::rows_of(&Words::F(words), Order::Crossed).expect("acceptable");
-        for room in [count - 1, count] {
-            let (order, elements) = (Order::Crossed, rows.concat());
-            vectors.push(Vector { call: Call::WriteF, order, room, elements });
-        }
-    }
-    vectors
+    let some = layouts.into_iter().step_by(3).chain(flips.into_iter().step_by(11));
+    some.chain(two_faults).map(|words| cases::reading(rng, words).text()).collect()
+}
+
+/// All of the texts, or as many of them, evenly taken, as have no more bytes together.
+fn thinned(texts: Vec<Vec<u8>>, most_bytes: usize) -> Vec<Vec<u8>> {
+    let count = texts.len();
+    let is_kept = |index: usize, kept: usize| (index + 1) * kept / count > index * kept / count;
+    let fits = |&kept: &usize| {
+        let indices = (0..count).filter(|&index| is_kept(index, kept));
+        indices.map(|index| texts[index].len()).sum::<usize>() <= most_bytes
+    };
+    let kept = (0..=count).rev().find(fits).unwrap_or(0);
+    let all = texts.into_iter().enumerate();
+    all.filter(|&(index, _)| is_kept(index, kept)).map(|(_, text)| text).collect()
 }

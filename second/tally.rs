@@ -1,8 +1,9 @@
 //! Counts of answers met, by source and dialect.
 
-use crate::base::{Answer, Words};
-use crate::read_f::{flag, HEADER_FLAG};
-use crate::vectors::Call;
+use crate::base::{Answer, Order};
+use crate::dialects::{Special, Words, DIALECTS};
+use crate::vectors::{self, Call, Vector};
+use crate::{host, lines};
 use std::collections::BTreeMap;
 
 #[derive(Clone, Copy, PartialEq, Eq, PartialOrd, Ord, Debug)]
@@ -17,108 +18,139 @@ use Source::{Host, Line, Reading, Writing};
 
 pub const SOURCES: [Source; 4] = [Line, Reading, Writing, Host];
 
-/// The refusals that a long comparison must have met, by source and dialect.
-const WANTED: [(Source, char, &[u32]); 8] = [
-    (Line, 'S', &[1, 2, 3, 4, 5, 6, 7, 8, 9, 10, 11]),
-    (Line, 'F', &[1, 5, 6, 9, 10, 11]),
-    (Line, '-', &[30]),
-    (Reading, 'S', &[1, 2, 3, 4, 5, 6, 7, 8, 9, 10, 11, 12]),
-    (Reading, 'F', &[1, 5, 6, 9, 10, 11, 12]),
-    (Writing, 'S', &[20, 21, 22, 23, 24]),
-    (Writing, 'F', &[20, 21, 22, 24]),
-    (Host, 'S', &[1, 2, 3, 4, 5, 6, 7, 8, 9, 10, 11, 31]),
-];
+/// A source and a dialect, with the refusals that a long comparison must have met.
+struct Column {
+    source: Source,
+    /// The dialect's letter, `-` where a line has none.
+    letter: char,
+    wanted: Vec<u32>,
+}
+
+fn columns() -> Vec<Column> {
+    let column =
+        |source, letter, wanted: &[u32]| Column { source, letter, wanted: wanted.to_vec() };
+    let mut columns = Vec::new();
+    columns.extend(DIALECTS.map(|dialect| column(Line, dialect.letter, dialect.wanted.reading)));
+    columns.push(column(Line, '-', &[30]));
+    columns.extend(
+        DIALECTS.map(|dialect| {
+            column(Reading, dialect.letter, &[dialect.wanted.reading, &[12]].concat())
+        }),
+    );
+    columns.extend(DIALECTS.map(|dialect| column(Writing, dialect.letter, dialect.wanted.writing)));
+    let host_wanted = [host::DIALECT.wanted.reading, &[31]].concat();
+    columns.push(column(Host, host::DIALECT.letter, &host_wanted));
+    columns
+}
+
+/// The special answers of all dialects, with their names.
+fn specials() -> Vec<(char, &'static Special)> {
+    let of_all = DIALECTS.iter().map(|dialect| (dialect.letter, dialect.wanted.special));
+    of_all.flat_map(|(letter, all)| all.iter().map(move |special| (letter, special))).collect()
+}
 
 /// How often each answer was met.
 pub struct Tally {
-    /// For a source, a dialect (`-` where a line has none) and a refusal number (0 for an
-    /// acceptance).
+    /// For a source, a letter and a refusal number (0 for an acceptance).
     met: BTreeMap<(Source, char, u32), u64>,
-    /// F lines with 11 at the header of a block that does not fit either.
-    unfinished: u64,
+    /// For a letter and the name of a special answer.
+    special: BTreeMap<(char, &'static str), u64>,
 }
 
 impl Tally {
     pub fn new() -> Tally {
-        Tally { met: BTreeMap::new(), unfinished: 0 }
+        Tally { met: BTreeMap::new(), special: BTreeMap::new() }
     }
 
-    fn add(&mut self, source: Source, dialect: char, answer: Answer) {
+    /// The answers to a text of lines.
+    pub fn of_lines(text: &[u8]) -> Tally {
+        let mut tally = Tally::new();
+        let mut note = |words: Option<&Words>, answer| tally.add_line(words, answer);
+        lines::list(text, Order::DEFAULT, &mut Vec::new(), &mut note);
+        tally
+    }
+
+    /// The answers to a text of vectors.
+    pub fn of_vectors(text: &[u8]) -> Result<Tally, String> {
+        let mut tally = Tally::new();
+        for vector in vectors::parse(text)? {
+            let answer = vector.push_answer(&mut Vec::new());
+            tally.add_call(&vector, answer);
+        }
+        Ok(tally)
+    }
+
+    fn add(&mut self, source: Source, letter: char, answer: Answer) {
         let number = answer.err().map_or(0, |refusal| refusal.number);
-        *self.met.entry((source, dialect, number)).or_insert(0) += 1;
+        *self.met.entry((source, letter, number)).or_insert(0) += 1;
     }
 
     pub fn add_line(&mut self, words: Option<&Words>, answer: Answer) {
-        let dialect = match words {
-            Some(Words::S(_)) => 'S',
-            Some(Words::F(words)) => {
-                self.unfinished += u64::from(is_unfinished(words, answer));
-                'F'
-            }
-            None => '-',
-        };
-        self.add(Line, dialect, answer);
+        let Some(Words { dialect, words }) = words else { return self.add(Line, '-', answer) };
+        for special in dialect.wanted.special {
+            let count = self.special.entry((dialect.letter, special.name)).or_insert(0);
+            *count += u64::from((special.is_met)(words, answer));
+        }
+        self.add(Line, dialect.letter, answer);
     }
 
-    pub fn add_call(&mut self, call: Call, answer: Answer) {
-        let (source, dialect) = match call {
-            Call::WriteS => (Writing, 'S'),
-            Call::WriteF => (Writing, 'F'),
-            Call::ReadS => (Reading, 'S'),
-            Call::ReadF => (Reading, 'F'),
+    pub fn add_call(&mut self, vector: &Vector, answer: Answer) {
+        let source = match vector.call {
+            Call::Write => Writing,
+            Call::Read => Reading,
         };
-        self.add(source, dialect, answer);
+        self.add(source, vector.dialect.letter, answer);
     }
 
     pub fn add_host(&mut self, answer: Answer) {
-        self.add(Host, 'S', answer);
+        self.add(Host, host::DIALECT.letter, answer);
     }
 
-    fn count(&self, source: Source, dialect: char, number: u32) -> u64 {
-        self.met.get(&(source, dialect, number)).copied().unwrap_or(0)
+    fn count(&self, column: &Column, number: u32) -> u64 {
+        self.met.get(&(column.source, column.letter, number)).copied().unwrap_or(0)
+    }
+
+    fn special_count(&self, letter: char, special: &Special) -> u64 {
+        self.special.get(&(letter, special.name)).copied().unwrap_or(0)
     }
 
     /// What these sources should have met and have not.
     pub fn missing(&self, sources: &[Source]) -> Vec<String> {
         let mut missing = Vec::new();
-        for (source, dialect, numbers) in WANTED {
-            for &number in numbers {
-                if sources.contains(&source) && self.count(source, dialect, number) == 0 {
-                    missing.push(format!("{source:?} {dialect} {number}"));
-                }
-            }
+        for column in columns().iter().filter(|column| sources.contains(&column.source)) {
+            let unmet = column.wanted.iter().filter(|&&number| self.count(column, number) == 0);
+            missing.extend(unmet.map(|n| format!("{:?} {} {n}", column.source, column.letter)));
         }
-        if sources.contains(&Line) && self.unfinished == 0 {
-            missing.push("Line F 11 where the block does not fit".to_string());
+        for (letter, special) in specials() {
+            if sources.contains(&Line) && self.special_count(letter, special) == 0 {
+                missing.push(format!("Line {letter} {}", special.name));
+            }
         }
         missing
     }
 
     /// A table of all that was met or wanted; refusal 0 is acceptance.
     pub fn report(&self) -> String {
-        let wanted = WANTED.iter().flat_map(|(_, _, numbers)| numbers.iter().copied());
+        let columns = columns();
+        let wanted = columns.iter().flat_map(|column| column.wanted.iter().copied());
         let mut numbers: Vec<u32> = self.met.keys().map(|key| key.2).chain(wanted).collect();
         numbers.sort_unstable();
         numbers.dedup();
         let mut text = String::from("refusal  from all");
-        for (source, dialect, _) in WANTED {
-            text += &format!(" {:>9}", format!("{source:?} {dialect}"));
+        for column in &columns {
+            text += &format!(" {:>9}", format!("{:?} {}", column.source, column.letter));
         }
+        text.push('\n');
         for number in numbers {
-            let counts = WANTED.map(|(source, dialect, _)| self.count(source, dialect, number));
-            text += &format!("\n{number:7} {:9}", counts.iter().sum::<u64>());
-            for count in counts {
-                text += &format!(" {count:9}");
-            }
+            let counts = columns.iter().map(|column| self.count(column, number));
+            text += &format!("{number:7} {:9}", counts.clone().sum::<u64>());
+            counts.for_each(|count| text += &format!(" {count:9}"));
+            text.push('\n');
         }
-        text + &format!("\nLine F 11 where the block does not fit: {}\n", self.unfinished)
+        for (letter, special) in specials() {
+            let count = self.special_count(letter, special);
+            text += &format!("Line {letter} {}: {count}\n", special.name);
+        }
+        text
     }
-}
-
-/// Is it 11 at a module's header whose block does not fit?
-fn is_unfinished(words: &[u32], answer: Answer) -> bool {
-    let Err(refusal) = answer else { return false };
-    let rest = words.get(refusal.place as usize..).unwrap_or(&[]);
-    let is_header = rest.first().is_some_and(|&word| flag(word) == HEADER_FLAG);
-    refusal.number == 11 && is_header && (rest[0] & 0x3f) as usize + 2 > rest.len()
 }

@@ -1,25 +1,21 @@
 //! The text form of calls of the reading and writing functions, and the answers to it.
 
 use crate::base::{Answer, Order};
+use crate::dialects::{Dialect, DIALECTS};
 use crate::lines::push_hex;
-use crate::{read_f, read_s, write_f, write_s};
 
 /// The most elements that a vector may give or lend.
 pub const MOST_ELEMENTS: usize = 16_800;
 
-#[derive(Clone, Copy, PartialEq, Eq, PartialOrd, Ord, Debug)]
+#[derive(Clone, Copy, PartialEq, Eq)]
 pub enum Call {
-    WriteS,
-    WriteF,
-    ReadS,
-    ReadF,
+    Write,
+    Read,
 }
 
-pub const CALLS: [Call; 4] = [Call::WriteS, Call::WriteF, Call::ReadS, Call::ReadF];
-
-#[derive(Clone, Debug)]
 pub struct Vector {
     pub call: Call,
+    pub dialect: &'static Dialect,
     pub order: Order,
     /// How many elements are lent.
     pub room: usize,
@@ -28,8 +24,26 @@ pub struct Vector {
 }
 
 impl Vector {
+    pub fn writing(
+        dialect: &'static Dialect,
+        order: Order,
+        room: usize,
+        elements: Vec<u32>,
+    ) -> Vector {
+        Vector { call: Call::Write, dialect, order, room, elements }
+    }
+
+    pub fn reading(
+        dialect: &'static Dialect,
+        order: Order,
+        room: usize,
+        elements: Vec<u32>,
+    ) -> Vector {
+        Vector { call: Call::Read, dialect, order, room, elements }
+    }
+
     /// The vector's text: a head line, then runs of equal lines of four elements.
-    pub fn push_text(&self, text: &mut Vec<u8>) {
+    pub fn text(&self) -> Vec<u8> {
         let mut runs: Vec<(u32, [u32; 4])> = Vec::new();
         for chunk in self.elements.chunks(4) {
             let mut four = [0; 4];
@@ -41,32 +55,30 @@ impl Vector {
         }
         let cut = (4 - self.elements.len() % 4) % 4;
         let order = if self.order == Order::Crossed { 0 } else { 1 };
-        let head = [self.call as u32, order, self.room as u32, cut as u32, runs.len() as u32];
-        push_numbers(text, &head);
+        // The writings of all dialects have the first numbers, the readings the next.
+        let call = self.call as usize * DIALECTS.len() + self.dialect.number();
+        let head = [call as u32, order, self.room as u32, cut as u32, runs.len() as u32];
+        let mut text = Vec::with_capacity(45 * (runs.len() + 1));
+        push_numbers(&mut text, &head);
         for (repeat, [a, b, c, d]) in runs {
-            push_numbers(text, &[repeat, a, b, c, d]);
+            push_numbers(&mut text, &[repeat, a, b, c, d]);
         }
+        text
     }
 
     /// Makes the call and puts out its answer and the lent buffer.
     pub fn push_answer(&self, output: &mut Vec<u8>) -> Answer {
-        let mut long_room = vec![0xa5a5_a5a5u32; self.room];
+        let untouched = match self.call {
+            Call::Write => 0xa5a5_a5a5 & self.dialect.largest_word(),
+            Call::Read => 0xa5a5_a5a5,
+        };
+        let mut room = vec![untouched; self.room];
         let answer = match self.call {
-            Call::WriteS => {
-                let mut word_room = vec![0xa5a5u16; self.room];
-                let answer = write_s::write(&self.elements, self.order, &mut word_room);
-                long_room = word_room.into_iter().map(u32::from).collect();
-                answer
-            }
-            Call::WriteF => write_f::write(&self.elements, &mut long_room),
-            Call::ReadS => {
-                let words: Vec<u16> = self.elements.iter().map(|&word| word as u16).collect();
-                read_s::read(&words, self.order, &mut long_room)
-            }
-            Call::ReadF => read_f::read(&self.elements, &mut long_room),
+            Call::Write => self.dialect.write(&self.elements, self.order, &mut room),
+            Call::Read => self.dialect.read(&self.elements, self.order, &mut room),
         };
         push_outcome(output, answer);
-        push_buffer(output, &long_room);
+        push_buffer(output, &room);
         answer
     }
 }
@@ -108,13 +120,14 @@ fn push_buffer(output: &mut Vec<u8>, buffer: &[u32]) {
 }
 
 /// The vectors of a text, or what is wrong with it.
-pub fn parse(text: &str) -> Result<Vec<Vector>, String> {
+pub fn parse(text: &[u8]) -> Result<Vec<Vector>, String> {
+    let text = std::str::from_utf8(text).map_err(|error| error.to_string())?;
     let mut lines = text.lines().enumerate();
     let mut vectors = Vec::new();
     while let Some((index, line)) = lines.next() {
         let [call, order, room, cut, runs] = parse_line(index, line)?;
         let bad_head = || format!("line {}: not a head line", index + 1);
-        let call = *CALLS.get(call as usize).ok_or_else(bad_head)?;
+        let (call, dialect) = call_of(call as usize).ok_or_else(bad_head)?;
         let order = *[Order::Crossed, Order::Rising].get(order as usize).ok_or_else(bad_head)?;
         let mut elements = Vec::new();
         for _ in 0..runs {
@@ -129,13 +142,18 @@ pub fn parse(text: &str) -> Result<Vec<Vector>, String> {
         }
         let kept = elements.len().checked_sub(cut as usize).ok_or_else(bad_head)?;
         elements.truncate(kept);
-        let is_wide = call == Call::ReadS && elements.iter().any(|&word| word > 0xffff);
-        if room as usize > MOST_ELEMENTS || is_wide {
+        let is_wide = |&word: &u32| call == Call::Read && word > dialect.largest_word();
+        if room as usize > MOST_ELEMENTS || elements.iter().any(is_wide) {
             return Err(bad_head());
         }
-        vectors.push(Vector { call, order, room: room as usize, elements });
+        vectors.push(Vector { call, dialect, order, room: room as usize, elements });
     }
     Ok(vectors)
+}
+
+fn call_of(number: usize) -> Option<(Call, &'static Dialect)> {
+    let call = *[Call::Write, Call::Read].get(number / DIALECTS.len())?;
+    Some((call, DIALECTS[number % DIALECTS.len()]))
 }
 
 fn parse_line(index: usize, line: &str) -> Result<[u32; 5], String> {

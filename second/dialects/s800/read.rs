@@ -1,14 +1,10 @@
 //! Reading of dialect S (01, "Dialect S, word by word" and the refusal table).
 
-use crate::base::{fill_rows, refuse, Answer, ChannelSet, Order, Refusal, Row};
-use crate::tags::{self, kind};
+use super::tags::{self, kind};
+use crate::base::{refuse, ChannelSet, Order, Refusal, Row};
 
 pub const SMALLEST_EVENT: usize = 14;
 pub const LARGEST_EVENT: usize = 4096;
-
-pub fn read(words: &[u16], order: Order, room: &mut [u32]) -> Answer {
-    fill_rows(&rows_of(words, order)?, room)
-}
 
 /// The rows of an event, or its refusal; every refusal but 12.
 pub fn rows_of(words: &[u16], order: Order) -> Result<Vec<Row>, Refusal> {

@@ -1,6 +1,7 @@
 //! Broken lines: text that is not a line of 01, or that only just is one.
 
-use crate::lines::LONGEST_LINE;
+use crate::dialects::DIALECTS;
+use crate::lines::{line_of, most_words, LONGEST_LINE};
 use crate::rng::Rng;
 
 /// A line broken in one way; at times it is still a line, such as a letter alone.
@@ -20,12 +21,31 @@ pub fn broken(rng: &mut Rng, line: &[u8]) -> Vec<u8> {
         9 => line[at] = 0,
         10 => line[at] = rng.within(128, 255) as u8,
         11 => line.push(b'\r'),
-        12 => line[0] = rng.pick(b"SFSFsfRW0 "),
+        12 => line[0] = rng.pick(&first_characters()),
         13 => line.insert(0, b' '),
-        14 => line = rng.pick(&[&b"S"[..], b"F", b"S ", b"F ", b" ", b"\r", b"0", b"SF"]).to_vec(),
+        14 => line = without_words(rng),
         _ => line.truncate(at),
     }
     line
+}
+
+fn letters() -> Vec<u8> {
+    DIALECTS.map(|dialect| dialect.letter as u8).to_vec()
+}
+
+/// The dialects' letters twice, the same in lower case, and others.
+fn first_characters() -> Vec<u8> {
+    let letters = letters();
+    [&letters[..], &letters, &letters.to_ascii_lowercase(), b"RW0 "].concat()
+}
+
+/// A letter alone or before a space, all letters, or another character.
+fn without_words(rng: &mut Rng) -> Vec<u8> {
+    let letters = letters();
+    let mut lines: Vec<Vec<u8>> = letters.iter().map(|&letter| vec![letter]).collect();
+    lines.extend(letters.iter().map(|&letter| vec![letter, b' ']));
+    lines.extend([b" ".to_vec(), b"\r".to_vec(), b"0".to_vec(), letters]);
+    lines.swap_remove(rng.below(lines.len()))
 }
 
 /// The first such byte from an index on, or the last before it.
@@ -52,24 +72,31 @@ fn remove_near(line: &mut Vec<u8>, wanted: u8, at: usize) {
     }
 }
 
-/// A line of more than 20,481 characters, often by one only, of words or of any bytes.
+/// A line too long, often by one character only, of words or of any bytes.
 pub fn too_long(rng: &mut Rng) -> Vec<u8> {
-    match rng.below(4) {
-        0 => b"S".iter().chain(b" 0000".repeat(4097).iter()).copied().collect(),
-        1 => b"F".iter().chain(b" 00000000".repeat(2276).iter()).copied().collect(),
-        2 => vec![b'S'; LONGEST_LINE + 1],
-        _ => (0..LONGEST_LINE + rng.within(1, 5000)).map(|_| not_line_feed(rng)).collect(),
+    let choice = rng.below(DIALECTS.len() + 2);
+    match DIALECTS.get(choice) {
+        Some(dialect) => line_of(dialect, &vec![0; most_words(dialect) + 1]),
+        None if choice == DIALECTS.len() => vec![letters()[0]; LONGEST_LINE + 1],
+        None => {
+            let more = rng.within(1, 5000);
+            any_bytes(rng, LONGEST_LINE + more)
+        }
     }
 }
 
-/// A line of exactly 20,481 characters, or a few less: never too long.
+/// A line of the most characters, or a few less: never too long.
 pub fn longest(rng: &mut Rng) -> Vec<u8> {
-    match rng.below(4) {
-        0 => b"S".iter().chain(b" 0000".repeat(4096).iter()).copied().collect(),
-        1 => b"F".iter().chain(b" 00000000".repeat(2275).iter()).copied().collect(),
-        2 => vec![b'F'; LONGEST_LINE],
-        _ => (0..LONGEST_LINE).map(|_| not_line_feed(rng)).collect(),
+    let choice = rng.below(DIALECTS.len() + 2);
+    match DIALECTS.get(choice) {
+        Some(dialect) => line_of(dialect, &vec![0; most_words(dialect)]),
+        None if choice == DIALECTS.len() => vec![letters()[DIALECTS.len() - 1]; LONGEST_LINE],
+        None => any_bytes(rng, LONGEST_LINE),
     }
+}
+
+fn any_bytes(rng: &mut Rng, count: usize) -> Vec<u8> {
+    (0..count).map(|_| not_line_feed(rng)).collect()
 }
 
 fn not_line_feed(rng: &mut Rng) -> u8 {

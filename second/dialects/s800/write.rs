@@ -1,16 +1,12 @@
-//! Writing of dialect S: the inverse of the layouts in read_s.rs, with refusals 20 to 24.
+//! Writing of dialect S: the inverse of the layouts in read.rs, with refusals 20 to 23.
 
-use crate::base::{fill_words, Answer, ChannelSet, Order, Refusal};
+use super::read::LARGEST_EVENT;
+use super::tags::{self, kind};
+use crate::base::{refuse, ChannelSet, Order, Refusal};
 use crate::cursor::Cursor;
-use crate::read_s::LARGEST_EVENT;
-use crate::tags::{self, kind};
 
-pub fn write(elements: &[u32], order: Order, room: &mut [u16]) -> Answer {
-    fill_words(&words_of(elements, order)?, LARGEST_EVENT, room)
-}
-
-/// The words that rows need, or a refusal 20, 21 or 22. Above 65,535 words the length words
-/// are only their lower 16 bits; such events are refused by 23 in any case.
+/// The words of rows, or their refusal; every refusal but 24. Above 65,535 words the length
+/// words are only their lower 16 bits; such events are refused by 23 in any case.
 pub fn words_of(elements: &[u32], order: Order) -> Result<Vec<u16>, Refusal> {
     let rows = Cursor::new(elements)?;
     let mut writer = Writer { rows, words: vec![0, tags::EVENT, tags::VERSION] };
@@ -19,7 +15,11 @@ pub fn words_of(elements: &[u32], order: Order) -> Result<Vec<u16>, Refusal> {
         writer.put_packet(packet_index, order)?;
         packet_index += 1;
     }
-    writer.words[0] = writer.words.len() as u16;
+    let length = writer.words.len();
+    if length > LARGEST_EVENT {
+        return refuse(23, length);
+    }
+    writer.words[0] = length as u16;
     Ok(writer.words)
 }
 

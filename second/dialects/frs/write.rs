@@ -1,25 +1,15 @@
-//! Writing of dialect F: the inverse of the layouts in read_f.rs, with refusals 20 to 24.
+//! Writing of dialect F: the inverse of the layouts in read.rs, with refusals 20 to 22.
 
-use crate::base::{fill_words, Answer, ChannelSet, Refusal};
-use crate::cursor::Cursor;
-use crate::read_f::{
-    DATA_FLAG, EMPTY_FLAG, FOOTER_FLAG, HEADER_FLAG, LARGEST_EVENT, PATTERN_FOOTER, PATTERN_GEO,
+use super::layout::{
+    kind, tagged, DATA_FLAG, EMPTY_FLAG, FOOTER_FLAG, HEADER_FLAG, PATTERN_FOOTER, PATTERN_GEO,
     PATTERN_HEADER, PATTERN_UPPER, SCALER_FOOTER, SCALER_GEO, STAMP_HEAD, STAMP_UPPER,
 };
-use crate::tags::kind;
+use crate::base::{ChannelSet, Order, Refusal};
+use crate::cursor::Cursor;
 
-/// 23 cannot be given: each GEO comes once, so rows never need more than 1,062 longwords.
-pub fn write(elements: &[u32], room: &mut [u32]) -> Answer {
-    fill_words(&words_of(elements)?, LARGEST_EVENT, room)
-}
-
-/// A longword with a GEO and a flag over its lower 24 bits.
-pub fn tagged(geo: u32, flag: u32, lower: u32) -> u32 {
-    geo << 27 | flag << 24 | lower
-}
-
-/// The longwords that rows need, or a refusal 20, 21 or 22.
-pub fn words_of(elements: &[u32]) -> Result<Vec<u32>, Refusal> {
+/// The longwords of rows, or their refusal; every refusal but 24. 23 cannot be given: each GEO
+/// comes once, so rows never need more than 1,062 longwords.
+pub fn words_of(elements: &[u32], _: Order) -> Result<Vec<u32>, Refusal> {
     let mut rows = Cursor::new(elements)?;
     let mut words = Vec::new();
     put_stamp(&mut rows, &mut words)?;
@@ -35,7 +25,7 @@ pub fn words_of(elements: &[u32]) -> Result<Vec<u32>, Refusal> {
 }
 
 fn put_stamp(rows: &mut Cursor, words: &mut Vec<u32>) -> Result<(), Refusal> {
-    let row = rows.take(kind::F_STAMP)?;
+    let row = rows.take(kind::STAMP)?;
     rows.require(row[1..].iter().all(|&field| field <= 0xffff))?;
     words.push(STAMP_HEAD);
     for index in 0..3 {

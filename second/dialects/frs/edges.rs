@@ -1,11 +1,23 @@
 //! Systematic events of dialect F, acceptable ones at every edge and refused ones beyond it.
 
-use crate::make_f::{module_geos, Block};
-use crate::read_f::{
-    DATA_FLAG, EMPTY_FLAG, FOOTER_FLAG, HEADER_FLAG, PATTERN_FOOTER, PATTERN_HEADER, SCALER_FOOTER,
-    SCALER_GEO,
+use super::layout::{
+    tagged, DATA_FLAG, EMPTY_FLAG, FOOTER_FLAG, HEADER_FLAG, PATTERN_FOOTER, PATTERN_HEADER,
+    SCALER_FOOTER, SCALER_GEO,
 };
-use crate::write_f::tagged;
+use super::make::{module_geos, Block};
+use super::two_faults;
+use crate::dialects::{Edges, Probed};
+
+/// F has no lengths: its headers are among the layouts.
+pub fn edges() -> Edges<u32> {
+    Edges {
+        smallest: smallest(),
+        layouts: layouts(),
+        headers: vec![],
+        probed: vec![Probed { words: every_block(), first_word: 0, first_row: 0 }],
+        two_faults: two_faults::events(),
+    }
+}
 
 /// The event of spoken case 10.
 pub fn smallest() -> Vec<u32> {
@@ -44,8 +56,7 @@ pub fn stamp() -> Block {
     smallest()[..4].to_vec()
 }
 
-/// An event with a block of every kind, two scalers and two values: its bits are flipped and
-/// its rows are probed.
+/// An event with a block of every kind, two scalers and two values.
 pub fn every_block() -> Vec<u32> {
     [stamp(), scaler(2), pattern_unit(), module(13, 2), empty(8), module(31, 1)].concat()
 }
@@ -60,7 +71,7 @@ pub fn largest() -> Vec<u32> {
 }
 
 /// Every layout at and just beyond its edges.
-pub fn layouts() -> Vec<Vec<u32>> {
+fn layouts() -> Vec<Vec<u32>> {
     let mut events = vec![smallest(), every_block(), largest(), [largest(), vec![0]].concat()];
     for geo in 0..32 {
         events.push(with(&[empty(geo)]));
@@ -105,16 +116,4 @@ fn misplaced() -> Vec<Vec<u32>> {
         events.push(whole[..count].to_vec());
     }
     events
-}
-
-/// Each single bit of an event with every block flipped.
-pub fn flips() -> Vec<Vec<u32>> {
-    let event = every_block();
-    (0..32 * event.len())
-        .map(|bit| {
-            let mut flipped = event.clone();
-            flipped[bit / 32] ^= 1 << (bit % 32);
-            flipped
-        })
-        .collect()
 }

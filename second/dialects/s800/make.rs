@@ -1,8 +1,8 @@
 //! Acceptable events of dialect S, kept as packets so that damage can repair lengths.
 
-use crate::read_s::{LARGEST_EVENT, SMALLEST_EVENT};
+use super::read::{LARGEST_EVENT, SMALLEST_EVENT};
+use super::tags;
 use crate::rng::Rng;
-use crate::tags;
 
 /// A packet's words, its length word first.
 pub type Packet = Vec<u16>;
@@ -23,11 +23,11 @@ pub fn event_of(packets: &[Packet]) -> Vec<u16> {
     words
 }
 
-pub fn stamp_packet(rng: &mut Rng) -> Packet {
+fn stamp_packet(rng: &mut Rng) -> Packet {
     packet(tags::STAMP, &whole_words(rng, 4))
 }
 
-pub fn event_number_packet(rng: &mut Rng) -> Packet {
+fn event_number_packet(rng: &mut Rng) -> Packet {
     packet(tags::EVENT_NUMBER, &whole_words(rng, 3))
 }
 
@@ -35,9 +35,24 @@ fn whole_words(rng: &mut Rng, count: usize) -> Vec<u16> {
     (0..count).map(|_| rng.number(16) as u16).collect()
 }
 
+/// A random event of 14 words.
+pub fn smallest(rng: &mut Rng) -> Vec<Packet> {
+    vec![stamp_packet(rng), event_number_packet(rng)]
+}
+
+/// A trigger, an ion chamber, two 0x5840 packets of 128 samples.
+pub fn large(rng: &mut Rng) -> Vec<Packet> {
+    let mut packets = smallest(rng);
+    packets.push(packet_of(rng, tags::TRIGGER));
+    packets.push(packet_of(rng, tags::ION_CHAMBER));
+    packets.push(crdc_packet(rng, 128));
+    packets.push(crdc_packet(rng, 128));
+    packets
+}
+
 /// A random event: most are small, about one in four hundred is filled up to a large size.
-pub fn event(rng: &mut Rng) -> Vec<Packet> {
-    let mut packets = vec![stamp_packet(rng), event_number_packet(rng)];
+pub fn mixed(rng: &mut Rng) -> Vec<Packet> {
+    let mut packets = smallest(rng);
     if rng.below(400) == 0 {
         fill_up(rng, &mut packets);
         return packets;
@@ -82,7 +97,7 @@ fn fill_up(rng: &mut Rng, packets: &mut Vec<Packet>) {
 }
 
 /// A random acceptable packet of a tag of tags::LATER.
-pub fn packet_of(rng: &mut Rng, tag: u16) -> Packet {
+fn packet_of(rng: &mut Rng, tag: u16) -> Packet {
     match tag {
         tags::TRIGGER => {
             let count = rng.count(0, 4);
@@ -156,7 +171,7 @@ fn hodoscope_packet(rng: &mut Rng) -> Packet {
     packet(tags::HODOSCOPE, &content)
 }
 
-pub fn crdc_packet(rng: &mut Rng, samples: usize) -> Packet {
+fn crdc_packet(rng: &mut Rng, samples: usize) -> Packet {
     let mut content = vec![rng.below(2) as u16, 2 * samples as u16 + 3, tags::CRDC_RAW];
     content.push(rng.number(16) as u16);
     for _ in 0..samples {

@@ -1,15 +1,16 @@
 //! `compare`: random events through the programs under test, byte for byte.
 
+mod child;
+mod difference;
+
 use crate::base::Order;
-use crate::cases::{self, Case};
-use crate::child::{self, Outcome};
-use crate::damage_line;
-use crate::difference;
+use crate::generate::cases::{self, Case};
+use crate::generate::{damage_line, limits};
 use crate::host::{self, HostCall};
-use crate::limits;
 use crate::lines;
 use crate::rng::Rng;
 use crate::tally::{Tally, SOURCES};
+use child::Outcome;
 
 /// A batch ends when it has so many events or so many bytes of vectors. One event adds at most
 /// two vectors of some 190,000 bytes, so the input stays below 1,048,576 bytes.
@@ -80,7 +81,7 @@ impl Batch {
     }
 
     fn push_host(&mut self, call: HostCall) {
-        call.push_text(&mut self.host_text);
+        self.host_text.extend(call.text());
         self.host_calls.push(call);
     }
 
@@ -92,13 +93,29 @@ impl Batch {
             batch.line_text.extend_from_slice(&case.line);
             batch.line_text.push(b'\n');
             for vector in &case.vectors {
-                vector.push_text(&mut batch.vector_text);
+                batch.vector_text.extend(vector.text());
             }
             batch.cases.push(case);
             batch.push_host(host::random(rng));
         }
         end_lines(rng, &mut batch.line_text);
         batch
+    }
+
+    /// What the three programs should put out.
+    fn expected(&self, tally: &mut Tally) -> [Vec<u8>; 3] {
+        let [mut listing, mut answers, mut hosts] = [vec![], vec![], vec![]];
+        lines::list(&self.line_text, Order::DEFAULT, &mut listing, &mut |words, answer| {
+            tally.add_line(words, answer);
+        });
+        for vector in self.cases.iter().flat_map(|case| &case.vectors) {
+            let answer = vector.push_answer(&mut answers);
+            tally.add_call(vector, answer);
+        }
+        for call in &self.host_calls {
+            tally.add_host(call.push_answer(&mut hosts));
+        }
+        [listing, answers, hosts]
     }
 }
 
@@ -124,19 +141,7 @@ fn compare_batch(settings: &Settings, batch: &Batch, tally: &mut Tally) -> Resul
     let listing = child::start(&settings.list_events, batch.line_text.clone()).map_err(label)?;
     let calls = child::start(&settings.run_vectors, batch.vector_text.clone()).map_err(label)?;
     let hosts = child::start(&settings.host_calls, batch.host_text.clone()).map_err(label)?;
-    let mut expected_listing = Vec::new();
-    lines::list(&batch.line_text, Order::Crossed, &mut expected_listing, &mut |words, answer| {
-        tally.add_line(words, answer);
-    });
-    let mut expected_answers = Vec::new();
-    for vector in batch.cases.iter().flat_map(|case| &case.vectors) {
-        let answer = vector.push_answer(&mut expected_answers);
-        tally.add_call(vector.call, answer);
-    }
-    let mut expected_hosts = Vec::new();
-    for call in &batch.host_calls {
-        tally.add_host(call.push_answer(&mut expected_hosts));
-    }
+    let [expected_listing, expected_answers, expected_hosts] = batch.expected(tally);
     let listing = listing.finish();
     let calls = calls.finish();
     let hosts = hosts.finish();
@@ -152,10 +157,7 @@ fn compare_batch(settings: &Settings, batch: &Batch, tally: &mut Tally) -> Resul
     })
     .map_err(label)?;
     judge(&settings.host_calls, &batch.host_text, &expected_hosts, &hosts, |line| {
-        let mut input = Vec::new();
-        if let Some(call) = batch.host_calls.get(line) {
-            call.push_text(&mut input);
-        }
+        let input = batch.host_calls.get(line).map_or(vec![], HostCall::text);
         format!("host call {} of the batch: {}", line + 1, String::from_utf8_lossy(&input))
     })
     .map_err(label)
@@ -166,8 +168,7 @@ fn vector_input(batch: &Batch, index: usize) -> (usize, String) {
     let mut vectors_before = 0;
     for (event, case) in batch.cases.iter().enumerate() {
         if index < vectors_before + case.vectors.len() {
-            let mut text = Vec::new();
-            case.vectors[index - vectors_before].push_text(&mut text);
+            let text = case.vectors[index - vectors_before].text();
             return (event, String::from_utf8_lossy(&text).into_owned());
         }
         vectors_before += case.vectors.len();
@@ -200,7 +201,7 @@ fn compare_limits(settings: &Settings) -> Result<(), String> {
     limits::each(&mut |what, input| {
         let running = child::start(&settings.list_events, input.clone())?;
         let mut expected = Vec::new();
-        lines::list(&input, Order::Crossed, &mut expected, &mut |_, _| {});
+        lines::list(&input, Order::DEFAULT, &mut expected, &mut |_, _| {});
         judge(&settings.list_events, &input, &expected, &running.finish(), |_| what.to_string())
     })
 }

@@ -1,9 +1,9 @@
 //! Damage to the words of dialect S. Enclosing lengths are often repaired afterwards, so that
 //! an inner fault is reached and not hidden by refusal 2 or 5.
 
-use crate::make_s::{self, Packet};
+use super::make::{self, Packet};
+use super::tags;
 use crate::rng::Rng;
-use crate::tags;
 
 /// The words of an event of these packets, damaged in one to three ways.
 pub fn damaged(rng: &mut Rng, mut packets: Vec<Packet>) -> Vec<u16> {
@@ -14,13 +14,26 @@ pub fn damaged(rng: &mut Rng, mut packets: Vec<Packet>) -> Vec<u16> {
             damage_one(rng, &mut packets);
         }
     }
-    let mut words = make_s::event_of(&packets);
+    let mut words = make::event_of(&packets);
     if rng.chance(20) {
         damage_event(rng, &mut words);
         if rng.chance(50) {
             words[0] = words.len() as u16;
         }
     }
+    words
+}
+
+/// The event cut or filled with an opaque packet to a size about the smallest or the largest.
+pub fn resized(rng: &mut Rng, good: &[u16]) -> Vec<u16> {
+    let size = rng.pick(&[12, 13, 14, 4094, 4095, 4096, 4097, 4098, 9000]);
+    let mut words = good.to_vec();
+    if size >= words.len() + 2 {
+        let filling = vec![rng.number(16) as u16; size - words.len() - 2];
+        words.extend(make::packet(rng.pick(&tags::OPAQUE), &filling));
+    }
+    words.resize(size, 0);
+    words[0] = size as u16;
     words
 }
 
@@ -37,7 +50,7 @@ fn damage_packets(rng: &mut Rng, packets: &mut Vec<Packet>) {
         _ => {
             let content: Vec<u16> = (0..rng.below(8)).map(|_| rng.next() as u16).collect();
             let tag = any_tag(rng);
-            packets.insert(rng.below(packets.len() + 1), make_s::packet(tag, &content));
+            packets.insert(rng.below(packets.len() + 1), make::packet(tag, &content));
         }
     }
 }

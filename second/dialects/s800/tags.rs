@@ -1,4 +1,4 @@
-//! Tags of dialect S and row kinds, by the names of source document 000 and 01, "Rows".
+//! Tags and row kinds of dialect S, by the names of source document 000 and 01, "Rows".
 
 pub const EVENT: u16 = 0x5800;
 pub const VERSION: u16 = 0x0005;
@@ -66,11 +66,4 @@ pub mod kind {
     pub const ANODE: u32 = 9;
     pub const HITS: u32 = 10;
     pub const OPAQUE: u32 = 11;
-    pub const F_STAMP: u32 = 16;
-    pub const SCALER_BLOCK: u32 = 17;
-    pub const SCALER: u32 = 18;
-    pub const PATTERN_UNIT: u32 = 19;
-    pub const EMPTY_MODULE: u32 = 20;
-    pub const MODULE: u32 = 21;
-    pub const VALUE: u32 = 22;
 }

@@ -1,8 +1,19 @@
 //! Systematic events of dialect S, acceptable ones at every edge and refused ones beyond it.
 
-use crate::make_s::{event_of, packet, Packet};
-use crate::read_s::{LARGEST_EVENT, SMALLEST_EVENT};
-use crate::tags;
+use super::make::{event_of, packet, Packet};
+use super::read::{LARGEST_EVENT, SMALLEST_EVENT};
+use super::{tags, two_faults};
+use crate::dialects::{Edges, Probed};
+
+pub fn edges() -> Edges<u16> {
+    Edges {
+        smallest: smallest(),
+        layouts: layouts(),
+        headers: tags_and_lengths(),
+        probed: probed(),
+        two_faults: two_faults::events(),
+    }
+}
 
 /// The first line of 01's listing.
 pub fn smallest() -> Vec<u16> {
@@ -102,8 +113,8 @@ pub fn fullest() -> Vec<Vec<u16>> {
     events
 }
 
-/// One small acceptable packet of each form: its bits are flipped and its rows are probed.
-pub fn small_packets() -> Vec<Packet> {
+/// One small acceptable packet of each form.
+fn small_packets() -> Vec<Packet> {
     let mut packets: Vec<Packet> = forms().iter().map(Form::small).collect();
     packets.push(scintillator(&[3, 5]));
     packets.push(crdc(1, &[0x8952, 0x092c]));
@@ -112,15 +123,23 @@ pub fn small_packets() -> Vec<Packet> {
     packets
 }
 
-/// The small packets without those that differ only in their opaque tag or in an inner id.
-pub fn different_packets() -> Vec<Packet> {
+/// The smallest event, and it with each small packet but those that differ only in their opaque
+/// tag or in an inner id: of these the packet alone is changed, whose rows come after the first
+/// four.
+fn probed() -> Vec<Probed<u16>> {
     let mut packets = small_packets();
     packets.retain(|packet| match packet[1] {
         tags::HODOSCOPE => packet[2] != 0,
         tags::ADC => packet[2] == 0 || packet[2] == 3,
         tag => !tags::OPAQUE[1..].contains(&tag),
     });
-    packets
+    let mut probed = vec![Probed { words: smallest(), first_word: 0, first_row: 0 }];
+    probed.extend(packets.into_iter().map(|packet| Probed {
+        words: with(&[packet]),
+        first_word: SMALLEST_EVENT,
+        first_row: 4,
+    }));
+    probed
 }
 
 fn scintillator(channels: &[u16]) -> Packet {
@@ -136,7 +155,7 @@ fn crdc(id: u16, samples: &[u16]) -> Packet {
 }
 
 /// Every layout at and just beyond its edges.
-pub fn layouts() -> Vec<Vec<u16>> {
+fn layouts() -> Vec<Vec<u16>> {
     let mut packets: Vec<Packet> = forms().iter().flat_map(Form::packets).collect();
     for count in 0..=7 {
         packets.push(scintillator(&ALL[..count]));
@@ -195,7 +214,7 @@ fn whole_events() -> Vec<Vec<u16>> {
 
 /// Every tag from 0x5800 to 0x58ff with the shortest length, and every known tag with every
 /// length to 22, its inner lengths and tags as they should be.
-pub fn tags_and_lengths() -> Vec<Vec<u16>> {
+fn tags_and_lengths() -> Vec<Vec<u16>> {
     let mut events = Vec::new();
     for tag in 0x5800..=0x58ff {
         events.push(with(&[packet(tag, &[])]));
@@ -212,23 +231,6 @@ pub fn tags_and_lengths() -> Vec<Vec<u16>> {
             }
             events.push(with(&[words]));
         }
-    }
-    events
-}
-
-/// Each single bit of the smallest event, and of one small packet of each form, flipped.
-pub fn flips() -> Vec<Vec<u16>> {
-    let mut events = Vec::new();
-    let mut flip_from = |event: Vec<u16>, from: usize| {
-        for bit in 16 * from..16 * event.len() {
-            let mut flipped = event.clone();
-            flipped[bit / 16] ^= 1 << (bit % 16);
-            events.push(flipped);
-        }
-    };
-    flip_from(smallest(), 0);
-    for packet in different_packets() {
-        flip_from(with(&[packet]), SMALLEST_EVENT);
     }
     events
 }

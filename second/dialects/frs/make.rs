@@ -1,23 +1,36 @@
 //! Acceptable events of dialect F, kept as blocks so that damage can repair counts.
 
-use crate::read_f::{
-    DATA_FLAG, EMPTY_FLAG, FOOTER_FLAG, HEADER_FLAG, PATTERN_FOOTER, PATTERN_HEADER, PATTERN_UPPER,
-    SCALER_FOOTER, SCALER_GEO, STAMP_HEAD, STAMP_UPPER,
+use super::layout::{
+    tagged, DATA_FLAG, EMPTY_FLAG, FOOTER_FLAG, HEADER_FLAG, PATTERN_FOOTER, PATTERN_HEADER,
+    PATTERN_UPPER, SCALER_FOOTER, SCALER_GEO, STAMP_HEAD, STAMP_UPPER,
 };
 use crate::rng::Rng;
-use crate::write_f::tagged;
 
 /// The longwords of a block: the stamp, the scaler, the pattern unit or one module.
 pub type Block = Vec<u32>;
 
-pub const MOST_MODULES: usize = 30;
+const MOST_MODULES: usize = 30;
 
 pub fn event_of(blocks: &[Block]) -> Vec<u32> {
     blocks.concat()
 }
 
+/// A random event of 7 longwords.
+pub fn smallest(rng: &mut Rng) -> Vec<Block> {
+    vec![stamp(rng), scaler(rng, 1)]
+}
+
+/// A random event of 1,062 longwords.
+pub fn largest(rng: &mut Rng) -> Vec<Block> {
+    let mut blocks = vec![stamp(rng), scaler(rng, 32), pattern_unit(rng)];
+    for geo in module_geos() {
+        blocks.push(module(rng, geo, 32));
+    }
+    blocks
+}
+
 /// A random event: most are small, some have all modules with all channels.
-pub fn event(rng: &mut Rng) -> Vec<Block> {
+pub fn mixed(rng: &mut Rng) -> Vec<Block> {
     let is_largest = rng.below(500) == 0;
     let mut blocks = vec![stamp(rng)];
     let scalers = if is_largest { 32 } else { rng.count(1, 32) };
@@ -49,7 +62,7 @@ pub fn module_geos() -> Vec<u32> {
     (0..32).filter(|&geo| geo != 5 && geo != 6).collect()
 }
 
-pub fn stamp(rng: &mut Rng) -> Block {
+fn stamp(rng: &mut Rng) -> Block {
     let mut words = vec![STAMP_HEAD];
     for upper in STAMP_UPPER {
         words.push(upper << 16 | rng.number(16));
@@ -57,7 +70,7 @@ pub fn stamp(rng: &mut Rng) -> Block {
     words
 }
 
-pub fn scaler(rng: &mut Rng, count: usize) -> Block {
+fn scaler(rng: &mut Rng, count: usize) -> Block {
     let mut words = vec![tagged(SCALER_GEO, HEADER_FLAG, count as u32)];
     words.extend((0..count).map(|_| rng.number(32)));
     words.push(SCALER_FOOTER);
@@ -70,7 +83,7 @@ pub fn pattern_unit(rng: &mut Rng) -> Block {
     vec![PATTERN_HEADER, register, multiplicity, PATTERN_FOOTER]
 }
 
-pub fn module(rng: &mut Rng, geo: u32, count: usize) -> Block {
+fn module(rng: &mut Rng, geo: u32, count: usize) -> Block {
     let mut words = vec![tagged(geo, HEADER_FLAG, count as u32)];
     let all: Vec<u32> = (0..32).collect();
     for channel in rng.distinct(&all, count) {

@@ -1,9 +1,8 @@
 //! Inputs of the listing at its limits: the most lines, the longest line, and a byte count at
 //! which a program may well end one read and begin another.
 
-use crate::base::Words;
-use crate::edges_s;
-use crate::lines::{line_of, LONGEST_LINE, MOST_LINES};
+use crate::dialects::DIALECTS;
+use crate::lines::{line_of, most_words, LONGEST_LINE, MOST_LINES};
 
 const READ_END: usize = 262_144;
 
@@ -43,8 +42,9 @@ fn most_lines(judge: &mut Judge) -> Result<(), String> {
 /// Lines whose line feed is just before, at and after the read's end, and, for a good line, at
 /// every place that lets the line straddle it. The line feed may be lacking.
 fn read_ends(judge: &mut Judge) -> Result<(), String> {
-    let good = line_of(&Words::S(edges_s::smallest()));
-    let longest = line_of(&Words::S(vec![0x5800; LONGEST_LINE / 5]));
+    let dialect = DIALECTS[0];
+    let good = line_of(dialect, &dialect.edges().smallest);
+    let longest = line_of(dialect, &vec![0x5800; most_words(dialect)]);
     let too_long = vec![b'S'; LONGEST_LINE + 1];
     let after_good = [b"\n", &good[..], b"\nS 0001\n"].concat();
     for (line, straddled) in [(&good, good.len()), (&longest, 3), (&too_long, 3)] {

@@ -1,40 +1,16 @@
 //! Reading of dialect F (01, "Dialect F, longword by longword" and the refusal table).
 
-use crate::base::{fill_rows, refuse, Answer, ChannelSet, Refusal, Row};
-use crate::tags::kind;
+use super::layout::{
+    flag, geo, kind, DATA_FLAG, EMPTY_FLAG, FOOTER_FLAG, HEADER_FLAG, PATTERN_FOOTER, PATTERN_GEO,
+    PATTERN_HEADER, PATTERN_UPPER, SCALER_FOOTER, SCALER_GEO, STAMP_HEAD, STAMP_UPPER,
+};
+use crate::base::{refuse, ChannelSet, Order, Refusal, Row};
 
 pub const SMALLEST_EVENT: usize = 7;
 pub const LARGEST_EVENT: usize = 1062;
 
-pub const STAMP_HEAD: u32 = 0x0000_0200;
-/// The upper halves of stamp longwords 1 to 3.
-pub const STAMP_UPPER: [u32; 3] = [0x00f7, 0x01f7, 0x02f7];
-pub const SCALER_GEO: u32 = 6;
-pub const SCALER_FOOTER: u32 = 0x3400_0000;
-pub const PATTERN_GEO: u32 = 5;
-pub const PATTERN_HEADER: u32 = 0x2a00_0002;
-pub const PATTERN_FOOTER: u32 = 0x2c00_0000;
-/// The upper halves over the register and over the multiplicity.
-pub const PATTERN_UPPER: [u32; 2] = [0x2800, 0x2801];
-pub const DATA_FLAG: u32 = 0;
-pub const HEADER_FLAG: u32 = 2;
-pub const FOOTER_FLAG: u32 = 4;
-pub const EMPTY_FLAG: u32 = 6;
-
-pub fn geo(word: u32) -> u32 {
-    word >> 27
-}
-
-pub fn flag(word: u32) -> u32 {
-    word >> 24 & 7
-}
-
-pub fn read(words: &[u32], room: &mut [u32]) -> Answer {
-    fill_rows(&rows_of(words)?, room)
-}
-
-/// The rows of an event, or its refusal; every refusal but 12.
-pub fn rows_of(words: &[u32]) -> Result<Vec<Row>, Refusal> {
+/// The rows of an event, or its refusal; every refusal but 12. F has no stamp order.
+pub fn rows_of(words: &[u32], _: Order) -> Result<Vec<Row>, Refusal> {
     if words.len() < SMALLEST_EVENT || words.len() > LARGEST_EVENT {
         return refuse(1, 0);
     }
@@ -61,7 +37,7 @@ fn put_stamp(words: &[u32], rows: &mut Vec<Row>) -> Result<(), Refusal> {
             return refuse(10, index);
         }
     }
-    rows.push([kind::F_STAMP, words[1] & 0xffff, words[2] & 0xffff, words[3] & 0xffff]);
+    rows.push([kind::STAMP, words[1] & 0xffff, words[2] & 0xffff, words[3] & 0xffff]);
     Ok(())
 }
 

@@ -1,11 +1,10 @@
 //! Damage to the longwords of dialect F. Counts are often repaired afterwards.
 
-use crate::make_f::{self, Block};
-use crate::read_f::{
-    flag, geo, DATA_FLAG, EMPTY_FLAG, FOOTER_FLAG, HEADER_FLAG, PATTERN_GEO, SCALER_GEO,
+use super::layout::{
+    flag, geo, tagged, DATA_FLAG, EMPTY_FLAG, FOOTER_FLAG, HEADER_FLAG, PATTERN_GEO, SCALER_GEO,
 };
+use super::make::{self, Block};
 use crate::rng::Rng;
-use crate::write_f::tagged;
 
 /// The longwords of an event of these blocks, damaged in one to three ways.
 pub fn damaged(rng: &mut Rng, mut blocks: Vec<Block>) -> Vec<u32> {
@@ -16,10 +15,18 @@ pub fn damaged(rng: &mut Rng, mut blocks: Vec<Block>) -> Vec<u32> {
             damage_one(rng, &mut blocks);
         }
     }
-    let mut words = make_f::event_of(&blocks);
+    let mut words = make::event_of(&blocks);
     if rng.chance(15) && !words.is_empty() {
         damage_event(rng, &mut words);
     }
+    words
+}
+
+/// The event cut or filled with equal longwords to a size about the smallest or the largest.
+pub fn resized(rng: &mut Rng, good: &[u32]) -> Vec<u32> {
+    let size = rng.pick(&[0, 5, 6, 7, 1061, 1062, 1063, 1064, 2275]);
+    let mut words = good.to_vec();
+    words.resize(size, rng.number(32));
     words
 }
 
@@ -33,7 +40,7 @@ fn damage_blocks(rng: &mut Rng, blocks: &mut Vec<Block>) {
         0 => drop(blocks.remove(one)),
         1 => blocks.insert(other, blocks[one].clone()),
         2 => blocks.swap(one, other),
-        3 => blocks.insert(one, make_f::pattern_unit(rng)),
+        3 => blocks.insert(one, make::pattern_unit(rng)),
         4 => {
             let unit = rng.below(32) as u32;
             blocks.push(vec![tagged(unit, EMPTY_FLAG, 0)]);
@@ -54,7 +61,7 @@ fn add_unfinished(rng: &mut Rng, blocks: &mut Vec<Block>) {
     let mut seen: Vec<u32> = heads.map(|&word| geo(word)).collect();
     seen.retain(|&unit| unit != SCALER_GEO && unit != PATTERN_GEO);
     if seen.is_empty() {
-        seen.push(rng.pick(&make_f::module_geos()));
+        seen.push(rng.pick(&make::module_geos()));
         blocks.push(vec![tagged(seen[0], EMPTY_FLAG, 0)]);
     }
     let (unit, count) = (rng.pick(&seen), rng.within(1, 32));

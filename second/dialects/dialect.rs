@@ -1,0 +1,155 @@
+//! A row of the table: what the rest of the program knows of a dialect, on words of 32 bits each.
+
+use super::native::{narrowed, widened, Edges, Native};
+use super::DIALECTS;
+use crate::base::{fill_rows, fill_words, Answer, Order, Refusal, Row};
+use crate::rng::Rng;
+use crate::vectors::Vector;
+use std::collections::BTreeSet;
+use std::ops::RangeInclusive;
+
+pub struct Dialect {
+    /// The letter that begins its lines.
+    pub letter: char,
+    /// The fewest and the most words of an event.
+    pub smallest_event: usize,
+    pub largest_event: usize,
+    pub native: Native,
+    pub rows: Rows,
+    pub wanted: Wanted,
+    /// Stored calls at the smallest and the largest sizes, with the rooms around what they need.
+    pub large_readings: fn() -> Vec<Vector>,
+    pub large_writings: fn() -> Vec<Vector>,
+    /// Checks the cases that the documents spell out.
+    pub check_cases: fn() -> Result<(), String>,
+}
+
+/// What is tried on the rows of a dialect.
+pub struct Rows {
+    /// Its kinds and those beside them.
+    pub kinds: RangeInclusive<u32>,
+    /// The kinds whose unit is a tag, each with what makes a random tag, known or not.
+    pub tag_kinds: &'static [(u32, fn(&mut Rng) -> u32)],
+    /// Values just inside and just outside the range of a field (1 unit, 2 channel, 3 datum) of
+    /// a row.
+    pub limits: fn(&Row, usize) -> Vec<u32>,
+    /// The same for some field of some row.
+    pub any_limits: &'static [u32],
+    /// Lists of row elements at edges that concern several rows.
+    pub lists: fn() -> Vec<Vec<u32>>,
+    /// Elements that need about or more words than the largest event, made from the rows of an
+    /// event of so many words. None where no rows need more (no refusal 23).
+    pub too_many: Option<fn(&mut Rng, &[Row], usize) -> Vec<u32>>,
+}
+
+/// What a long comparison, the stored texts and the generator must have met.
+pub struct Wanted {
+    /// The refusals of readings, 12 aside, and of writings.
+    pub reading: &'static [u32],
+    pub writing: &'static [u32],
+    pub special: &'static [Special],
+    /// Adds the marks of an acceptable event, from its words and rows.
+    pub add_marks: fn(&[u32], &[Row], &mut Marks),
+    pub marks: fn() -> Vec<Mark>,
+}
+
+/// An answer to a line that its refusal number alone does not tell.
+pub struct Special {
+    pub name: &'static str,
+    pub is_met: fn(&[u32], Answer) -> bool,
+}
+
+/// What an event shows: a name and a number, such as a tag and a length.
+pub type Mark = (String, u32);
+pub type Marks = BTreeSet<Mark>;
+
+/// Marks of one name with several numbers.
+pub fn marks(name: &str, numbers: impl IntoIterator<Item = u32>) -> Vec<Mark> {
+    numbers.into_iter().map(|number| (name.to_string(), number)).collect()
+}
+
+/// Words of one event, or of what stands in for one, each in 32 bits, with their dialect.
+pub struct Words {
+    pub dialect: &'static Dialect,
+    pub words: Vec<u32>,
+}
+
+impl Words {
+    /// The rows, or the refusal: any but 12.
+    pub fn rows(&self, order: Order) -> Result<Vec<Row>, Refusal> {
+        self.dialect.rows_of(&self.words, order)
+    }
+}
+
+impl Dialect {
+    /// The dialect's place in the table, its number in vectors and in the calls of bench/.
+    pub fn number(&self) -> usize {
+        let place = DIALECTS.iter().position(|dialect| dialect.letter == self.letter);
+        place.expect("a dialect is a row of the table")
+    }
+
+    pub fn word_bits(&self) -> usize {
+        match self.native {
+            Native::Bits16(_) => 16,
+            Native::Bits32(_) => 32,
+        }
+    }
+
+    /// The hexadecimal digits of a word on a line.
+    pub fn digits(&self) -> usize {
+        self.word_bits() / 4
+    }
+
+    pub fn largest_word(&self) -> u32 {
+        u32::MAX >> (32 - self.word_bits())
+    }
+
+    pub fn rows_of(&self, words: &[u32], order: Order) -> Result<Vec<Row>, Refusal> {
+        match self.native {
+            Native::Bits16(functions) => (functions.rows_of)(&narrowed(words), order),
+            Native::Bits32(functions) => (functions.rows_of)(words, order),
+        }
+    }
+
+    fn words_of(&self, elements: &[u32], order: Order) -> Result<Vec<u32>, Refusal> {
+        match self.native {
+            Native::Bits16(functions) => Ok(widened(&(functions.words_of)(elements, order)?)),
+            Native::Bits32(functions) => (functions.words_of)(elements, order),
+        }
+    }
+
+    pub fn read(&self, words: &[u32], order: Order, room: &mut [u32]) -> Answer {
+        fill_rows(&self.rows_of(words, order)?, room)
+    }
+
+    pub fn write(&self, elements: &[u32], order: Order, room: &mut [u32]) -> Answer {
+        fill_words(&self.words_of(elements, order)?, room)
+    }
+
+    /// A random acceptable event.
+    pub fn mixed(&self, rng: &mut Rng) -> Vec<u32> {
+        match self.native {
+            Native::Bits16(functions) => widened(&(functions.event_of)(&(functions.mixed)(rng))),
+            Native::Bits32(functions) => (functions.event_of)(&(functions.mixed)(rng)),
+        }
+    }
+
+    /// A random acceptable event, and the same as it is given.
+    pub fn random(&'static self, rng: &mut Rng, is_damaged: bool) -> (Words, Words) {
+        let (good, given) = match self.native {
+            Native::Bits16(functions) => {
+                let (good, given) = functions.random(rng, is_damaged);
+                (widened(&good), widened(&given))
+            }
+            Native::Bits32(functions) => functions.random(rng, is_damaged),
+        };
+        (Words { dialect: self, words: good }, Words { dialect: self, words: given })
+    }
+
+    pub fn edges(&self) -> Edges<u32> {
+        match self.native {
+            Native::Bits16(functions) => (functions.edges)().widened(),
+            Native::Bits32(functions) => (functions.edges)(),
+        }
+    }
+}

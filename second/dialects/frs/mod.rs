@@ -1,0 +1,56 @@
+//! Dialect F, the FRS VME event (source document 004).
+
+mod damage;
+mod edges;
+mod large;
+mod layout;
+mod make;
+mod marks;
+mod read;
+mod rows;
+mod spoken;
+mod two_faults;
+mod write;
+
+use super::{Dialect, Functions, Native, Rows, Special, Wanted};
+use crate::generate::damage_rows::FIELD_LIMITS;
+
+pub static DIALECT: Dialect = Dialect {
+    letter: 'F',
+    smallest_event: read::SMALLEST_EVENT,
+    largest_event: read::LARGEST_EVENT,
+    native: Native::Bits32(&FUNCTIONS),
+    rows: Rows {
+        kinds: 15..=23,
+        tag_kinds: &[],
+        limits: rows::limits,
+        any_limits: &FIELD_LIMITS,
+        lists: rows::lists,
+        too_many: None,
+    },
+    wanted: Wanted {
+        reading: &[1, 5, 6, 9, 10, 11],
+        writing: &[20, 21, 22, 24],
+        special: &[UNFINISHED],
+        add_marks: marks::add,
+        marks: marks::wanted,
+    },
+    large_readings: large::readings,
+    large_writings: large::writings,
+    check_cases: spoken::check,
+};
+
+const UNFINISHED: Special =
+    Special { name: "11 where the block does not fit", is_met: marks::is_unfinished };
+
+static FUNCTIONS: Functions<u32> = Functions {
+    rows_of: read::rows_of,
+    words_of: write::words_of,
+    event_of: make::event_of,
+    mixed: make::mixed,
+    smallest: make::smallest,
+    large: make::largest,
+    damaged: damage::damaged,
+    resized: damage::resized,
+    edges: edges::edges,
+};

@@ -1,0 +1,9 @@
+//! What goes into the programs: random cases and their damage, systematic changes of words and
+//! rows, inputs at the limits of the listing.
+
+pub mod cases;
+pub mod damage_line;
+pub mod damage_rows;
+pub mod limits;
+pub mod line_edges;
+pub mod probes;
