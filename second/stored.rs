@@ -1,7 +1,7 @@
 //! `stored lines` and `stored vectors`: the stored inputs, made with a fixed seed.
 
 use crate::base::Order;
-use crate::dialects::{Words, DIALECTS};
+use crate::dialects::{Dialect, Words, DIALECTS};
 use crate::generate::{cases, damage_line, line_edges, probes};
 use crate::lines::{line_of, LONGEST_LINE};
 use crate::rng::Rng;
@@ -22,15 +22,8 @@ pub fn lines() -> Vec<u8> {
     let mut put = |line: &[u8]| text.extend([line, b"\n"].concat());
     put(&line_of(DIALECTS[0], &DIALECTS[0].edges().smallest));
     put(b"S 0001");
-    for line in thinned(event_lines(), LINE_EDGE_BYTES) {
-        put(&line);
-    }
-    for dialect in DIALECTS {
-        for (_, words) in dialect.edges().two_faults {
-            put(&line_of(dialect, &words));
-        }
-    }
-    for line in line_edges::all() {
+    let events = thinned(event_lines(), LINE_EDGE_BYTES);
+    for line in events.into_iter().chain(fault_lines()).chain(line_edges::all()) {
         put(&line);
     }
     let mut left = RANDOM_LINES;
@@ -59,15 +52,34 @@ fn event_lines() -> Vec<Vec<u8>> {
     lines
 }
 
+/// The lines of the events that break two rules at once.
+fn fault_lines() -> Vec<Vec<u8>> {
+    let of_dialect = |dialect: &'static Dialect| {
+        let events = dialect.edges().two_faults.into_iter();
+        events.map(move |(_, words)| line_of(dialect, &words))
+    };
+    DIALECTS.iter().flat_map(|dialect| of_dialect(dialect)).collect()
+}
+
+/// Every edge, as lines.
+pub fn edge_lines() -> Vec<Vec<u8>> {
+    [event_lines(), fault_lines(), line_edges::all()].concat()
+}
+
+/// Every edge, as calls.
+pub fn edge_calls() -> Vec<Vector> {
+    let mut rng = Rng::new(SEED);
+    let edges = edge_writings(&mut rng).into_iter().chain(edge_readings(&mut rng));
+    large_calls().into_iter().chain(edges).collect()
+}
+
 /// Edges for all calls in both orders, then random calls.
 pub fn vectors() -> Vec<u8> {
     let mut rng = Rng::new(SEED);
-    let large_readings = DIALECTS.iter().flat_map(|dialect| (dialect.large_readings)());
-    let large_writings = DIALECTS.iter().flat_map(|dialect| (dialect.large_writings)());
-    let large = large_readings.chain(large_writings).map(|vector| vector.text());
-    let mut text = large.collect::<Vec<_>>().concat();
-    let writings = edge_writings(&mut rng);
-    let readings = edge_readings(&mut rng).concat();
+    let texts = |vectors: Vec<Vector>| vectors.iter().map(Vector::text).collect::<Vec<_>>();
+    let mut text = texts(large_calls()).concat();
+    let writings = texts(edge_writings(&mut rng));
+    let readings = texts(edge_readings(&mut rng)).concat();
     let left = VECTOR_EDGE_BYTES.saturating_sub(text.len() + readings.len());
     text.extend(thinned(writings, left).concat());
     text.extend(readings);
@@ -81,21 +93,27 @@ pub fn vectors() -> Vec<u8> {
     text
 }
 
+fn large_calls() -> Vec<Vector> {
+    let readings = DIALECTS.iter().flat_map(|dialect| (dialect.large_readings)());
+    let writings = DIALECTS.iter().flat_map(|dialect| (dialect.large_writings)());
+    readings.chain(writings).collect()
+}
+
 /// Writings of the rows of small events, changed in one place, in both orders by turns.
-fn edge_writings(rng: &mut Rng) -> Vec<Vec<u8>> {
-    let mut texts = Vec::new();
+fn edge_writings(rng: &mut Rng) -> Vec<Vector> {
+    let mut vectors = Vec::new();
     for dialect in DIALECTS {
         for elements in probes::row_lists(dialect) {
             let room = rng.within(40, 60);
-            let order = [Order::Rising, Order::Crossed][texts.len() % 2];
-            texts.push(Vector::writing(dialect, order, room, elements).text());
+            let order = [Order::Rising, Order::Crossed][vectors.len() % 2];
+            vectors.push(Vector::writing(dialect, order, room, elements));
         }
     }
-    texts
+    vectors
 }
 
 /// Readings of some small edges, some flips, and all events that break two rules at once.
-fn edge_readings(rng: &mut Rng) -> Vec<Vec<u8>> {
+fn edge_readings(rng: &mut Rng) -> Vec<Vector> {
     let (mut layouts, mut flips, mut two_faults) = (vec![], vec![], vec![]);
     for dialect in DIALECTS {
         let edges = dialect.edges();
@@ -106,11 +124,12 @@ fn edge_readings(rng: &mut Rng) -> Vec<Vec<u8>> {
         two_faults.extend(edges.two_faults.into_iter().map(|(_, words)| given(words)));
     }
     let some = layouts.into_iter().step_by(3).chain(flips.into_iter().step_by(11));
-    some.chain(two_faults).map(|words| cases::reading(rng, words).text()).collect()
+    some.chain(two_faults).map(|words| cases::reading(rng, words)).collect()
 }
 
-/// All of the texts, or as many of them, evenly taken, as have no more bytes together.
-fn thinned(texts: Vec<Vec<u8>>, most_bytes: usize) -> Vec<Vec<u8>> {
+/// All of the texts, or as many of them, evenly taken, as have no more bytes together. (What is
+/// left out here, `compare` still runs.)
+pub fn thinned(texts: Vec<Vec<u8>>, most_bytes: usize) -> Vec<Vec<u8>> {
     let count = texts.len();
     let is_kept = |index: usize, kept: usize| (index + 1) * kept / count > index * kept / count;
     let fits = |&kept: &usize| {

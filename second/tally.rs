@@ -119,14 +119,29 @@ impl Tally {
         let mut missing = Vec::new();
         for column in columns().iter().filter(|column| sources.contains(&column.source)) {
             let unmet = column.wanted.iter().filter(|&&number| self.count(column, number) == 0);
-            missing.extend(unmet.map(|n| format!("{:?} {} {n}", column.source, column.letter)));
+            let name = |n| format!("not met: {:?} {} {n}", column.source, column.letter);
+            missing.extend(unmet.map(name));
         }
         for (letter, special) in specials() {
             if sources.contains(&Line) && self.special_count(letter, special) == 0 {
-                missing.push(format!("Line {letter} {}", special.name));
+                missing.push(format!("not met: Line {letter} {}", special.name));
             }
         }
         missing
+    }
+
+    /// Refusals that were met and that no table demands: there a number was forgotten.
+    pub fn unwanted(&self) -> Vec<String> {
+        let columns = columns();
+        let is_wanted = |&&(source, letter, number): &&(Source, char, u32)| {
+            let of_column = |c: &&Column| c.source == source && c.letter == letter;
+            number == 0
+                || columns.iter().find(of_column).is_some_and(|c| c.wanted.contains(&number))
+        };
+        let others = self.met.keys().filter(|key| !is_wanted(key));
+        others
+            .map(|(source, letter, n)| format!("met, not wanted: {source:?} {letter} {n}"))
+            .collect()
     }
 
     /// A table of all that was met or wanted; refusal 0 is acceptance.

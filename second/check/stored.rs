@@ -10,11 +10,22 @@ pub fn run() -> Result<(), String> {
     ensure(lines.starts_with(format!("{LISTED}\n").as_bytes()), "01's lines come first")?;
     let largest = lines.len().max(vectors.len());
     ensure(largest < 1_000_000, "stored inputs are below 1,000,000 bytes")?;
-    ensure_met("lines", &Tally::of_lines(&lines).missing(&[Source::Line]))?;
-    let met = Tally::of_vectors(&vectors)?;
-    ensure_met("vectors", &met.missing(&[Source::Reading, Source::Writing]))
+    ensure_met("lines", &Tally::of_lines(&lines), &[Source::Line])?;
+    ensure_met("vectors", &Tally::of_vectors(&vectors)?, &[Source::Reading, Source::Writing])?;
+    check_thinned()
 }
 
-fn ensure_met(what: &str, missing: &[String]) -> Result<(), String> {
-    ensure(missing.is_empty(), &format!("not met by the stored {what}: {}", missing.join("; ")))
+fn ensure_met(what: &str, met: &Tally, sources: &[Source]) -> Result<(), String> {
+    let faults = [met.missing(sources), met.unwanted()].concat();
+    ensure(faults.is_empty(), &format!("the stored {what}: {}", faults.join("; ")))
+}
+
+/// All that fits is kept, else every second, every third, ..
+fn check_thinned() -> Result<(), String> {
+    let texts: Vec<Vec<u8>> = (0..12).map(|n| vec![n; 10]).collect();
+    let kept = |bytes| stored::thinned(texts.clone(), bytes).iter().map(|text| text[0]).collect();
+    let all: Vec<u8> = kept(120);
+    ensure(all == (0..12).collect::<Vec<_>>(), "texts that fit are all kept")?;
+    let (half, third): (Vec<u8>, Vec<u8>) = (kept(69), kept(40));
+    ensure(half == [1, 3, 5, 7, 9, 11] && third == [2, 5, 8, 11], "texts are left out evenly")
 }

@@ -1,4 +1,4 @@
-//! `compare`: random events through the programs under test, byte for byte.
+//! `compare`: every edge and random events through the programs under test, byte for byte.
 
 mod child;
 mod difference;
@@ -7,9 +7,10 @@ use crate::base::Order;
 use crate::generate::cases::{self, Case};
 use crate::generate::{damage_line, limits};
 use crate::host::{self, HostCall};
-use crate::lines;
 use crate::rng::Rng;
 use crate::tally::{Tally, SOURCES};
+use crate::vectors::Vector;
+use crate::{lines, stored};
 use child::Outcome;
 
 /// A batch ends when it has so many events or so many bytes of vectors. One event adds at most
@@ -43,7 +44,8 @@ pub fn run(settings: &Settings) -> Result<(), String> {
     let mut tally = Tally::new();
     let mut rng = Rng::new(settings.seed);
     let mut done = 0;
-    compare_batch(settings, &Batch::of_edges(), &mut tally)?;
+    compare_batch(settings, &Batch::of_host_edges(), &mut tally)?;
+    compare_edges(settings)?;
     while done < settings.events {
         let batch = Batch::random(&mut rng, done, settings.events - done);
         compare_batch(settings, &batch, &mut tally)?;
@@ -53,9 +55,12 @@ pub fn run(settings: &Settings) -> Result<(), String> {
         compare_limits(settings)?;
     }
     print!("{}", tally.report());
-    let missing = tally.missing(&SOURCES);
-    if settings.events >= LONG_RUN && !missing.is_empty() {
-        return Err(format!("not met: {}", missing.join("; ")));
+    let mut faults = tally.unwanted();
+    if settings.events >= LONG_RUN {
+        faults.extend(tally.missing(&SOURCES));
+    }
+    if !faults.is_empty() {
+        return Err(faults.join("; "));
     }
     println!("{done} events, no difference");
     Ok(())
@@ -74,7 +79,7 @@ impl Batch {
     }
 
     /// No line, no vector, and the edges of the host call.
-    fn of_edges() -> Batch {
+    fn of_host_edges() -> Batch {
         let mut batch = Batch::empty();
         host::edges().into_iter().for_each(|call| batch.push_host(call));
         batch
@@ -85,13 +90,29 @@ impl Batch {
         self.host_calls.push(call);
     }
 
+    fn push_line(&mut self, line: &[u8]) {
+        self.line_text.extend_from_slice(line);
+        self.line_text.push(b'\n');
+    }
+
+    /// The next batch of these edges.
+    fn of_edges(lines: &mut Vec<Vec<u8>>, calls: &mut impl Iterator<Item = Vector>) -> Batch {
+        let mut batch = Batch::empty();
+        lines.drain(..).for_each(|line| batch.push_line(&line));
+        while batch.vector_text.len() < BATCH_BYTES {
+            let Some(vector) = calls.next() else { break };
+            batch.vector_text.extend(vector.text());
+            batch.cases.push(Case { line: vec![], vectors: vec![vector] });
+        }
+        batch
+    }
+
     fn random(rng: &mut Rng, first_event: usize, most: usize) -> Batch {
         let mut batch = Batch { first_event, ..Batch::empty() };
         let size = most.min(rng.within(BATCH_EVENTS / 2, BATCH_EVENTS));
         while batch.cases.len() < size && batch.vector_text.len() < BATCH_BYTES {
             let case = cases::random(rng);
-            batch.line_text.extend_from_slice(&case.line);
-            batch.line_text.push(b'\n');
+            batch.push_line(&case.line);
             for vector in &case.vectors {
                 batch.vector_text.extend(vector.text());
             }
@@ -194,6 +215,19 @@ fn judge(
     };
     let around = difference::around(expected, &outcome.output, line);
     Err(format!("{program}: {trouble}\n{}\n{around}\n{kept}", describe(line)))
+}
+
+/// Every edge of every dialect. They are not counted: a long run must meet each refusal by
+/// itself.
+fn compare_edges(settings: &Settings) -> Result<(), String> {
+    let mut lines = stored::edge_lines();
+    let mut calls = stored::edge_calls().into_iter().peekable();
+    while !lines.is_empty() || calls.peek().is_some() {
+        let batch = Batch::of_edges(&mut lines, &mut calls);
+        let label = |problem| format!("edges: {problem}");
+        compare_batch(settings, &batch, &mut Tally::new()).map_err(label)?;
+    }
+    Ok(())
 }
 
 /// The inputs at the limits of the listing.

@@ -2,7 +2,7 @@
 
 use super::native::{narrowed, widened, Edges, Native};
 use super::DIALECTS;
-use crate::base::{fill_rows, fill_words, Answer, Order, Refusal, Row};
+use crate::base::{Answer, Order, Refusal, Row};
 use crate::rng::Rng;
 use crate::vectors::Vector;
 use std::collections::BTreeSet;
@@ -111,19 +111,23 @@ impl Dialect {
         }
     }
 
-    fn words_of(&self, elements: &[u32], order: Order) -> Result<Vec<u32>, Refusal> {
+    pub fn read(&self, words: &[u32], order: Order, room: &mut [u32]) -> Answer {
         match self.native {
-            Native::Bits16(functions) => Ok(widened(&(functions.words_of)(elements, order)?)),
-            Native::Bits32(functions) => (functions.words_of)(elements, order),
+            Native::Bits16(functions) => functions.read(&narrowed(words), order, room),
+            Native::Bits32(functions) => functions.read(words, order, room),
         }
     }
 
-    pub fn read(&self, words: &[u32], order: Order, room: &mut [u32]) -> Answer {
-        fill_rows(&self.rows_of(words, order)?, room)
-    }
-
     pub fn write(&self, elements: &[u32], order: Order, room: &mut [u32]) -> Answer {
-        fill_words(&self.words_of(elements, order)?, room)
+        match self.native {
+            Native::Bits16(functions) => {
+                let mut short_room = narrowed(room);
+                let answer = functions.write(elements, order, &mut short_room);
+                room.copy_from_slice(&widened(&short_room));
+                answer
+            }
+            Native::Bits32(functions) => functions.write(elements, order, room),
+        }
     }
 
     /// A random acceptable event.

@@ -32,10 +32,14 @@ pub struct Functions<W: 'static> {
 }
 
 impl<W: Copy> Functions<W> {
+    // Both are timed: inlined into the loop that times them, they would change its other works.
+
+    #[inline(never)]
     pub fn read(&self, words: &[W], order: Order, room: &mut [u32]) -> Answer {
         fill_rows(&(self.rows_of)(words, order)?, room)
     }
 
+    #[inline(never)]
     pub fn write(&self, elements: &[u32], order: Order, room: &mut [W]) -> Answer {
         fill_words(&(self.words_of)(elements, order)?, room)
     }
