@@ -9,7 +9,7 @@ use lib.Dec.{T, leb}
 use lib.ListN.{length, take, drop, length-append, length-take, take-append-drop}
 use lib.Seq.{take-at, drop-at}
 use borrow.Author.Tests.{leb-true, le-leb}
-use Rattle.event.specs.Parser.{Result, ok, refuse, Parser, Test, Passed, ended, _>>=_, give, here, require, judge, element, filled, within}
+use Rattle.event.specs.Parser.{Result, ok, refuse, Parser, Test, Passed, ended, _>>=_, _>>_, give, here, require, finish, checked, judge, element, filled, within}
 use Rattle.event.proofs.Impossible.{impossible}
 
 -- A success leaves a good value, printed in front of the rest, and the place is as many elements on;
@@ -136,3 +136,17 @@ module _ {E A : Type 0} where
 pub codes-require : {E : Type 0} (b : Bool) (n k : ℕ) → Codes {E = E} any (require b n k) (λ u. []) (λ u. T b)
 codes-require true n k = record { sound = λ i s a j r e. let p : i ≡ j = cc in (tt, cc, omega arith); complete = λ a g i r rr. (i, refl) }
 codes-require false n k = record { sound = λ i s a j r e. impossible cc; complete = λ a g. absurd g }
+
+pub codes-finish : {E : Type 0} (n : ℕ) → Codes {E = E} (At ended) (finish n) (λ u. []) (λ u. Unit {0})
+codes-finish {E} n = record { sound = λ i s a j r e. let h = codes-require (ended s) n i .sound i s a j r e in (tt, h .1, h .2); complete = cmp }
+  where
+    cmp : (u : Unit {0}) → Unit {0} → (i : ℕ) (r : List E) → T (ended r) → (j : ℕ) × (finish n i r ≡ ok u j r)
+    cmp u g i [] t = (i, refl)
+    cmp u g i (x ∷ r) t = absurd t
+
+pub codes-checked : {E A : Type 0} (holds : A → Bool) (n k : ℕ) (a : A) → Codes {E = E} any (checked holds n k a) (λ b. []) (λ b. (b ≡ a) × T (holds a))
+codes-checked holds n k a = go (holds a)
+  where
+    go : {E A : Type 0} {a : A} (b : Bool) → Codes {E = E} any (require b n k >> give a) (λ c. []) (λ c. (c ≡ a) × T b)
+    go true = record { sound = λ i s c j r e. let p : i ≡ j = cc in ((cc, tt), cc, omega arith); complete = λ c g i r u. (i, ap (λ x. ok x i r) (sym (g .0))) }
+    go false = record { sound = λ i s c j r e. impossible cc; complete = λ c g. absurd (g .1) }

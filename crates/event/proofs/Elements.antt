@@ -1,10 +1,12 @@
 -- Words and rows with fields, coded by what their fields print.
 -- Assumes nothing.
-use Prim.Native.Nat.{ℕ, _≤_}
+use Prim.Native.Nat.{ℕ, _*_, _≤_}
+use native.Mathlib.Omega.{arith}
 use mathlib.Core.Path.{_≡_, refl, ap}
 use mathlib.Core.Bool.{Bool, true, false, _&&_}
-use mathlib.Core.List.{List, [], _∷_, _++_, map}
+use mathlib.Core.List.{List, [], _∷_, _++_, map, append-assoc}
 use lib.Dec.{T, leb, leb→le, eqb→eq, eqb-refl}
+use lib.ListN.{length, length-append}
 use borrow.Author.Tests.{le-leb}
 use Rattle.event.specs.Parser.{Parser, Test, Passed, prints, Goods, each, All, alone, several}
 use Rattle.event.specs.Words.{layout, wordAlone, exactly, anyWord, between, belowChecks, wordBelow}
@@ -47,20 +49,22 @@ pub prints-each : {E St A : Type 0} (f : A → List E) (next : St → A → St) 
 prints-each f next st [] = refl
 prints-each f next st (x ∷ xs) = ap (f x ++_) (prints-each f next (next st x) xs)
 
-goods-all : {A : Type 0} (Good : A → Type 0) (xs : List A) → Goods (λ u. Good) alone tt xs → All Good xs
-goods-all Good [] g = tt
-goods-all Good (x ∷ xs) g = (g .0, goods-all Good xs (g .1))
+-- items whose rules do not look at the state
+module _ {St A : Type 0} (Good : A → Type 0) (next : St → A → St) where
+  pub goods-all : (st : St) (xs : List A) → Goods (λ s. Good) next st xs → All Good xs
+  goods-all st [] g = tt
+  goods-all st (x ∷ xs) g = (g .0, goods-all (next st x) xs (g .1))
 
-pub all-goods : {A : Type 0} (Good : A → Type 0) (xs : List A) → All Good xs → Goods (λ u. Good) alone tt xs
-all-goods Good [] g = tt
-all-goods Good (x ∷ xs) g = (g .0, all-goods Good xs (g .1))
+  pub all-goods : (st : St) (xs : List A) → All Good xs → Goods (λ s. Good) next st xs
+  all-goods st [] g = tt
+  all-goods st (x ∷ xs) g = (g .0, all-goods (next st x) xs (g .1))
 
 -- items that do not look at those before them, up to a stop
 pub codes-several-at : {E A : Type 0} {Rest : List E → Type 0} {p : Parser E A} {print : A → List E} {Good : A → Type 0} (stop : List E → Bool) → Codes Rest p print Good
     → ((a : A) → Good a → (r : List E) → Rest (print a ++ r)) → ((r : List E) → T (stop r) → Rest r)
     → ((a : A) → Good a → (r : List E) → stop (print a ++ r) ≡ false) → stop [] ≡ true → Codes (At stop) (several p stop) (each print) (All Good)
 codes-several-at {print = print} {Good = Good} stop c again last on halt = same (codes-many-at alone (λ u. c) (λ u. again) stop last (λ u. on) halt tt)
-    (goods-all Good) (all-goods Good) (λ xs g. prints-each print alone tt xs)
+    (goods-all Good alone tt) (all-goods Good alone tt) (λ xs g. prints-each print alone tt xs)
 
 pub codes-several : {E A : Type 0} {p : Parser E A} {print : A → List E} {Good : A → Type 0} (stop : List E → Bool) → Codes any p print Good
     → ((a : A) → Good a → (r : List E) → stop (print a ++ r) ≡ false) → stop [] ≡ true → Codes (At stop) (several p stop) (each print) (All Good)
@@ -73,3 +77,32 @@ each-map f (x ∷ xs) = ap (f x ∷_) (each-map f xs)
 pub each-alone : (ws : List ℕ) → each wordAlone ws ≡ ws
 each-alone [] = refl
 each-alone (w ∷ ws) = ap (w ∷_) (each-alone ws)
+
+-- items of m elements each
+pub prints-length : {E St A : Type 0} (print : St → A → List E) (next : St → A → St) (m : ℕ) → ((st : St) (a : A) → length (print st a) ≡ m)
+    → (st : St) (xs : List A) → length (prints print next st xs) ≡ length xs * m
+prints-length print next m one st [] = omega arith
+prints-length print next m one st (x ∷ xs) =
+    omega (arith, length-append (print st x) (prints print next (next st x) xs), one st x, prints-length print next m one (next st x) xs)
+
+pub each-length : {E A : Type 0} (f : A → List E) (m : ℕ) → ((a : A) → length (f a) ≡ m) → (xs : List A) → length (each f xs) ≡ length xs * m
+each-length f m one xs = rw (prints-each f alone tt xs) at (prints-length (λ t. f) alone m (λ t. one) tt xs)
+
+-- what is printed, printed again item by item
+pub each-append : {E A : Type 0} (f : A → List E) (xs ys : List A) → each f (xs ++ ys) ≡ each f xs ++ each f ys
+each-append f [] ys = refl
+each-append f (x ∷ xs) ys = rw (each-append f xs ys, append-assoc)
+
+pub each-prints : {E D St A : Type 0} (f : D → List E) (g : A → List E) (print : St → A → List D) (next : St → A → St) → ((st : St) (a : A) → each f (print st a) ≡ g a)
+    → (st : St) (xs : List A) → each f (prints print next st xs) ≡ each g xs
+each-prints f g print next same st [] = refl
+each-prints f g print next same st (x ∷ xs) = rw (each-append f (print st x) (prints print next (next st x) xs), same st x, each-prints f g print next same (next st x) xs)
+
+pub each-mapped : {E D A : Type 0} (f : D → List E) (g : A → List E) (h : A → D) → ((a : A) → f (h a) ≡ g a) → (xs : List A) → each f (map h xs) ≡ each g xs
+each-mapped f g h same [] = refl
+each-mapped f g h same (x ∷ xs) = rw (same x, each-mapped f g h same xs)
+
+-- items printed in two ways, each no longer in the first than in the second
+pub each-shorter : {E D A : Type 0} (f : A → List E) (g : A → List D) → ((a : A) → length (f a) ≤ length (g a)) → (xs : List A) → length (each f xs) ≤ length (each g xs)
+each-shorter f g less [] = omega arith
+each-shorter f g less (x ∷ xs) = omega (arith, length-append (f x) (each f xs), length-append (g x) (each g xs), less x, each-shorter f g less xs)

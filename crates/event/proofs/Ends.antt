@@ -1,6 +1,6 @@
 -- Where a parser ends: the place it gives, and the stop it runs up to.
 -- Assumes nothing.
-use Prim.Native.Nat.{ℕ, zero, suc, _+_, _≤_}
+use Prim.Native.Nat.{ℕ, zero, suc, _+_, _-_, _≤_}
 use native.Mathlib.Omega.{arith}
 use mathlib.Core.Path.{_≡_, refl, ap, sym, _∙_, subst}
 use mathlib.Core.Bool.{Bool, true, false, cond}
@@ -8,8 +8,8 @@ use mathlib.Core.List.{List, [], _∷_}
 use lib.Dec.{T}
 use lib.ListN.{length, drop, length-append, length-drop}
 use lib.Seq.{drop-at, drop-drop}
-use Rattle.event.specs.Parser.{Result, ok, refuse, Parser, then, _>>=_, give, upTo, many}
-use Rattle.event.proofs.Codes.{Codes, true-T}
+use Rattle.event.specs.Parser.{Result, ok, refuse, Parser, ended, then, _>>=_, give, here, finish, checked, lastly, upTo, many}
+use Rattle.event.proofs.Codes.{Codes, true-T, codes-checked}
 use Rattle.event.proofs.Impossible.{impossible}
 
 -- where a parser of the elements from i on ends: what a loop over a slice by an index needs
@@ -40,6 +40,14 @@ module _ {E : Type 0} (stop : List E → Bool) where
       go (ok a k t) e g = let u : t ≡ r = cc in subst (λ (l : List E). T (stop l)) u (h i s a k t e)
       go (refuse n k) e g = impossible cc
 
+  -- a rule of the whole takes nothing more
+  pub ends-lastly : {A : Type 0} (holds : A → Bool) (n : ℕ) (p : Parser E A) → Ends stop p → Ends stop (lastly holds n p)
+  ends-lastly {A} holds n p h i s b j r = go (p i s) refl
+    where
+      go : (x : Result E A) → p i s ≡ x → then (λ a. here >>= λ k. checked holds n (k - 1) a) x ≡ ok b j r → T (stop r)
+      go (ok a k t) e g = subst (λ (l : List E). T (stop l)) (codes-checked holds n (k - 1) a .sound k t b j r g .1) (h i s a k t e)
+      go (refuse m k) e g = impossible cc
+
   module _ {St A : Type 0} (item : St → Parser E A) (next : St → A → St) where
     -- at the stop, or after what `more` says
     at-stop : (i : ℕ) (s : List E) (y : Result E (List A)) (ys : List A) (j : ℕ) (r : List E) → (y ≡ ok ys j r → T (stop r))
@@ -55,3 +63,7 @@ module _ {E : Type 0} (stop : List E → Bool) where
 
     pub ends-many : (st : St) → Ends stop (many item next stop st)
     ends-many st i s = ends-upTo (length s) st i s
+
+pub ends-finish : {E : Type 0} (n : ℕ) → Ends {E = E} ended (finish n)
+ends-finish n i [] a j r e = let u : [] ≡ r = cc in subst (λ l. T (ended l)) u tt
+ends-finish n i (x ∷ s) a j r e = impossible cc

@@ -13,9 +13,9 @@ use Rattle.event.specs.Outcome.{done, refused, outcome}
 use Rattle.event.proofs.Refusals.{Keeps, keeps-left, keeps-many, keeps-outcome}
 
 -- items of one word each, up to the end
-pub fills-words : {St A : Type 0} {number : ℕ → Bool} {end : ℕ} (item : St → Parser ℕ A) (next : St → A → St)
-    → ((st : St) (s : List ℕ) → 1 ≤ length s → Keeps number end (λ n. 0) s (item st) (λ r. suc (length r) ≡ length s))
-    → (st : St) (s : List ℕ) → Keeps number end (λ n. 0) s (many item next ended st) (λ r. length r ≡ 0)
+pub fills-words : {St A : Type 0} {number : ℕ → Bool} {end : ℕ} {past : ℕ → ℕ} (item : St → Parser ℕ A) (next : St → A → St)
+    → ((st : St) (s : List ℕ) → 1 ≤ length s → Keeps number end past s (item st) (λ r. suc (length r) ≡ length s))
+    → (st : St) (s : List ℕ) → Keeps number end past s (many item next ended st) (λ r. length r ≡ 0)
 fills-words item next c st s = keeps-many item next (λ r. Unit {0}) (λ st s u l. keeps-left (c st s l) (λ r e. omega arith)) st s tt
 
 -- a whole event, whose parser uses no place past the words but 0

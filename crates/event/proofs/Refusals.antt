@@ -1,6 +1,6 @@
 -- What a parser refuses: a rule for each way to build it, by which every refusal has a number of a table and a place before an end, or past it by as much as its number allows.
 -- Assumes nothing.
-use Prim.Native.Nat.{ℕ, zero, suc, _+_, _≤_, _<_}
+use Prim.Native.Nat.{ℕ, zero, suc, _+_, _-_, _≤_, _<_}
 use native.Mathlib.Omega.{arith}
 use mathlib.Core.Path.{_≡_, refl, ap, subst}
 use mathlib.Core.Bool.{Bool, true, false, cond, not}
@@ -9,7 +9,7 @@ use mathlib.Core.Option.{some, none}
 use lib.Dec.{T, leb}
 use lib.ListN.{length, take, drop, length-take, length-drop}
 use borrow.Author.Tests.{leb-true}
-use Rattle.event.specs.Parser.{Result, ok, refuse, Parser, Test, ended, then, _>>=_, give, here, require, judge, element, filled, within, optionally, times, upTo, many, All}
+use Rattle.event.specs.Parser.{Result, ok, refuse, Parser, Test, ended, then, _>>=_, give, here, require, finish, checked, lastly, judge, element, filled, within, optionally, times, upTo, many, All}
 use Rattle.event.specs.Outcome.{done, refused, outcome}
 use Rattle.event.proofs.Codes.{T-true, nil}
 use Rattle.event.proofs.Impossible.{impossible}
@@ -61,6 +61,24 @@ module _ {E : Type 0} {number : ℕ → Bool} {end : ℕ} {past : ℕ → ℕ} w
   pub keeps-require : {s : List E} (b : Bool) (n k : ℕ) → T (number n) → k < end → Keeps number end past s (require b n k) (λ r. T b × (length r ≡ length s))
   keeps-require true n k t l = record { run = λ i limit e h. (e, (tt, refl)) }
   keeps-require false n k t l = record { run = λ i limit e h. (t, omega arith) }
+
+  -- the end of the input
+  pub keeps-finish : {s : List E} (n : ℕ) → T (number n) → Keeps number end past s (finish n) (λ r. length r ≡ 0)
+  keeps-finish {s = []} n t = record { run = λ i limit e h. (e, refl) }
+  keeps-finish {s = x ∷ s} n t = record { run = λ i limit e h. (t, omega arith) }
+
+  -- a rule of the whole, at the last place
+  pub keeps-lastly : {A : Type 0} {s : List E} {Left : List E → Type 0} {p : Parser E A} (holds : A → Bool) (n : ℕ) → T (number n) → Keeps number end past s p (λ r. (1 ≤ end) × Left r)
+      → Keeps number end past s (lastly holds n p) Left
+  keeps-lastly {A} {s} {Left} {p} holds n t c = record { run = λ i limit e h. go limit h (p i s) (c .run i limit e h) }
+    where
+      go : (limit : ℕ) → limit ≤ end → (x : Result E A) → Fair number end past limit (λ r. (1 ≤ end) × Left r) x → Fair number end past limit Left (then (λ a. here >>= λ k. checked holds n (k - 1) a) x)
+      go limit h (ok a j r) f = choice (holds a)
+        where
+          choice : (b : Bool) → Fair number end past limit Left (then (λ u. give a) (cond b (ok (tt {0}) j r) (refuse n (j - 1))))
+          choice true = (f .0, f .1 .1)
+          choice false = (t, omega arith)
+      go limit h (refuse m k) f = f
 
   -- an element
   pub keeps-element : {A : Type 0} {n : ℕ} {fields : E → A} {tests : E → List Test} {s : List E} → There number past n tests s → Keeps number end past s (element n fields tests) (λ r. suc (length r) ≡ length s)

@@ -38,13 +38,19 @@ same-row r s t = let h = same-fields r s t in λ i. record { kind = h .0 i; unit
 row-refl : (r : Row) → T (sameRow r r)
 row-refl r = rw (fields-same r r (refl, refl, refl, refl)) tt
 
--- a row: its fields may need their checks to be found again
+-- a row: that it may stand there, and its fields, may need its checks to be found again
+pub codes-row-at : {A : Type 0} (stands : Row → Bool) (fields : Row → A) (print : A → Row) (checks : A → List Test)
+    → ((a : A) → Passed (checks a) → T (stands (print a))) → ((a : A) → Passed (checks a) → fields (print a) ≡ a)
+    → Codes any (rowWith stands fields print checks) (λ a. print a ∷ []) (λ a. Passed (checks a))
+codes-row-at stands fields print checks may back = codes-element 21 fields _ print (λ a. Passed (checks a))
+    (λ r p. (p .1 .1, same-row r (print (fields r)) (p .1 .0)))
+    (λ a g. (back a g, rw (back a g) (may a g, (row-refl (print a), g))))
+
+-- such a row that may always stand there
 pub codes-row : {A : Type 0} (stands : Row → Bool) (fields : Row → A) (print : A → Row) (checks : A → List Test)
     → ((a : A) → T (stands (print a))) → ((a : A) → Passed (checks a) → fields (print a) ≡ a)
     → Codes any (rowWith stands fields print checks) (λ a. print a ∷ []) (λ a. Passed (checks a))
-codes-row stands fields print checks may back = codes-element 21 fields _ print (λ a. Passed (checks a))
-    (λ r p. (p .1 .1, same-row r (print (fields r)) (p .1 .0)))
-    (λ a g. (back a g, rw (back a g) (may a, (row-refl (print a), g))))
+codes-row stands fields print checks may = codes-row-at stands fields print checks (λ a g. may a)
 
 pub flat-in : (rs : List Row) → rowsIn (flat rs) ≡ rs
 flat-in [] = refl

@@ -1,14 +1,15 @@
 -- One parser after another: the codes of what they build.
 -- Assumes nothing.
-use Prim.Native.Nat.{ℕ, _+_}
+use Prim.Native.Nat.{ℕ, _+_, _-_}
 use native.Mathlib.Omega.{arith}
 use mathlib.Core.Path.{_≡_, refl, ap, sym, _∙_}
 use mathlib.Core.Bool.{Bool, true, false, cond}
-use mathlib.Core.List.{List, _++_, append-assoc}
+use mathlib.Core.List.{List, _++_, append-assoc, append-nil}
 use mathlib.Core.Option.{Option, some, none}
+use lib.Dec.{T}
 use lib.ListN.{length, length-append}
-use Rattle.event.specs.Parser.{Result, ok, refuse, Parser, then, _>>=_, give, optionally, ifAny, IfAny}
-use Rattle.event.proofs.Codes.{Codes, any}
+use Rattle.event.specs.Parser.{Result, ok, refuse, Parser, then, _>>=_, give, lastly, optionally, ifAny, IfAny}
+use Rattle.event.proofs.Codes.{Codes, any, same, less, codes-here, codes-checked}
 use Rattle.event.proofs.Impossible.{impossible}
 
 module _ {E A B : Type 0} where
@@ -87,6 +88,13 @@ module _ {E A B : Type 0} where
           let h = c .complete (g .0) (g .1) i r rr in
           let w : print′ b ≡ print (g .0) = ap print′ (g .2) ∙ sym (eq (g .0)) in
           (h .0, rw (w, h .1) (ap (λ (x : B). ok x (h .0) r) (sym (g .2))))
+
+-- and then a rule of the whole
+pub codes-lastly : {E A : Type 0} {Rest : List E → Type 0} {p : Parser E A} {print : A → List E} {Good : A → Type 0} (holds : A → Bool) (n : ℕ) → Codes Rest p print Good
+    → Codes Rest (lastly holds n p) print (λ a. Good a × T (holds a))
+codes-lastly {print = print} holds n c = same
+    (codes-bind-at (λ a. a) c (λ a g. less (codes-here λ k. codes-checked holds n (k - 1) a) (λ r t. tt)) (λ a b g. g .0) (λ a g r t. t))
+    (λ a g. (g .0, g .1 .1)) (λ a g. (g .0, (refl, g .1))) (λ a g. append-nil (print a))
 
 -- a part that may be absent: the input looks like it where it is printed, and elsewhere must not
 pub codes-optionally : {E A : Type 0} {p : Parser E A} {print : A → List E} {Good : A → Type 0} (looks : List E → Bool) → Codes any p print Good

@@ -1,15 +1,15 @@
 -- A loop by an index that scans items one by one: what it has reached, and what a turn does.
 -- Assumes nothing.
-use Prim.Native.Nat.{ℕ, suc, _+_, _≤_, _<_}
+use Prim.Native.Nat.{ℕ, suc, _+_, _-_, _≤_, _<_}
 use native.Mathlib.Omega.{arith}
 use mathlib.Core.Path.{_≡_, refl, _∙_}
-use mathlib.Core.Bool.{Bool, false}
+use mathlib.Core.Bool.{Bool, true, false}
 use mathlib.Core.List.{List, [], _∷_, _++_}
 use lib.ListN.{length, getD}
 use lib.Seq.{slice, slice-cons, slice-empty}
 use Rattle.event.specs.declared.Answer.the-variants.{Accepted, Refused}
 use Rattle.event.specs.declared.Row.{Row}
-use Rattle.event.specs.Parser.{ok, refuse, Parser, ended, _>>=_, give, many, each}
+use Rattle.event.specs.Parser.{Result, ok, refuse, Parser, ended, then, _>>=_, give, here, checked, lastly, many, each}
 use Rattle.event.specs.Scanning.{Scan, stores, storeRows, ScannedBy, LeadsBy, reading, Scanned}
 use Rattle.event.proofs.Codes.{Codes, any}
 use Rattle.event.proofs.Leads.{leads-part, leads-refl, leads-trans, scanned-refuse, scanned-none}
@@ -103,3 +103,16 @@ module _ {St A : Type 0} {item : St → Parser ℕ A} {print : St → A → List
       → Holds′ (next (h .state) a) → j ≤ end → k′ ≤ j → k′ ≡ k + length (f a) → b′ ≡ storeRows b k (f a) → length b′ ≡ length b
       → Reached item next f Holds′ ws end st₀ i₀ k₀ b₀ j k′ b′
   step = item-taken h more
+
+-- a scan, and then a rule of the whole at the last place: where it holds, and where it does not
+module _ {X R E A : Type 0} {scan : Scan X R} {itemsOf : A → List X} (holds : A → Bool) (n : ℕ) (p : Parser E A) (i : ℕ) (s : List E) {k : ℕ} {before after : List ℕ} where
+  pub lastly-holds : {result : R} → ScannedBy scan itemsOf (p i s) k before result after → ((a : A) (j : ℕ) (r : List E) → p i s ≡ ok a j r → holds a ≡ true)
+      → ScannedBy scan itemsOf (lastly holds n p i s) k before result after
+  lastly-holds {result} u h = go (p i s) refl u
+    where
+      go : (x : Result E A) → p i s ≡ x → ScannedBy scan itemsOf x k before result after → ScannedBy scan itemsOf (then (λ a. here >>= λ j. checked holds n (j - 1) a) x) k before result after
+      go (ok a j r) e v = rw (h a j r e) v
+      go (refuse m q) e v = v
+
+  pub lastly-fails : (a : A) (j : ℕ) (r : List E) → p i s ≡ ok a j r → holds a ≡ false → ScannedBy scan itemsOf (lastly holds n p i s) k before (scan .refused n (j - 1)) after
+  lastly-fails a j r e f = rw (e, f) (record { answered = refl; stored = tt })

@@ -1,7 +1,8 @@
 -- What the tables of computed vectors share: runs of words and of rows, and readings and writings into lent buffers. (No law: nothing here is proved.)
 -- Assumes nothing.
 use Prim.Native.Nat.{ℕ, zero, suc, _+_}
-use mathlib.Core.List.{List, [], _∷_}
+use mathlib.Core.Path.{_≡_}
+use mathlib.Core.List.{List, [], _∷_, map}
 use lib.ListN.{length, replicate}
 use Rattle.event.specs.declared.Answer.{Answer}
 use Rattle.event.specs.declared.Row.{Row}
@@ -17,6 +18,18 @@ rising w d (suc n) = w ∷ rising (w + d) d n
 abbrev pub risingRows : (kind unit c x n : ℕ) → List Row
 risingRows k u c x zero = []
 risingRows k u c x (suc n) = row k u c x ∷ risingRows k u (suc c) (suc x) n
+
+-- words or elements that come in, and the outcome expected
+pub record Vector (A : Type 0) : Type 0 where
+  pub input : List ℕ
+  pub outcome : Outcome A
+
+abbrev pub vector : {A : Type 0} → List ℕ → Outcome A → Vector A
+vector xs x = record { input = xs; outcome = x }
+
+-- each outcome is the expected one
+abbrev pub AsExpected : {A : Type 0} → (List ℕ → Outcome A) → List (Vector A) → Type 0
+AsExpected f vs = map (λ v. f (v .input)) vs ≡ map (λ v. v .outcome) vs
 
 -- words or elements and a buffer that come in, and what stands afterwards
 pub record Lent : Type 0 where

@@ -1,6 +1,6 @@
 -- Parsers with refusals, over any element type: words when reading, rows when writing.
 -- Assumes nothing.
-use Prim.Native.Nat.{ℕ, zero, suc}
+use Prim.Native.Nat.{ℕ, zero, suc, _-_}
 use mathlib.Core.Bool.{Bool, true, false, cond, _&&_, _||_, not}
 use mathlib.Core.List.{List, [], _∷_, _++_}
 use mathlib.Core.Option.{Option, some, none}
@@ -62,6 +62,18 @@ module _ {E : Type 0} where
   -- refusal n at place k unless the test holds
   abbrev pub require : Bool → ℕ → ℕ → Parser E (Unit {0})
   require b n k i s = cond b (ok tt i s) (refuse n k)
+
+  -- the input ends here: refusal n at one element more
+  abbrev pub finish : ℕ → Parser E (Unit {0})
+  finish n i s = require (ended s) n i i s
+
+  -- a rule of the whole, after all its parts: refusal n at place k unless it holds
+  abbrev pub checked : {A : Type 0} → (A → Bool) → (n k : ℕ) → A → Parser E A
+  checked holds n k a = require (holds a) n k >> give a
+
+  -- such a rule at the last place that `p` took
+  abbrev pub lastly : {A : Type 0} → (A → Bool) → (n : ℕ) → Parser E A → Parser E A
+  lastly holds n p = p >>= λ a. here >>= λ k. checked holds n (k - 1) a
 
   -- the first failed test refuses at the element's place
   abbrev pub judge : {A : Type 0} → List Test → A → Parser E A
@@ -145,3 +157,8 @@ fresh k (x ∷ xs) = not (eqb k x) && fresh k xs
 abbrev pub member : ℕ → List ℕ → Bool
 member k [] = false
 member k (x ∷ xs) = eqb k x || member k xs
+
+-- the first item of a list with key k, or `other` where none has it
+abbrev pub lookUp : {A : Type 0} → (A → ℕ) → (other : A) → List A → ℕ → A
+lookUp key other [] k = other
+lookUp key other (x ∷ xs) k = cond (eqb k (key x)) x (lookUp key other xs k)

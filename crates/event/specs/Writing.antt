@@ -51,7 +51,8 @@ rowAt xs i = getD (rowsIn xs) i noRow
 abbrev pub fromElements : (List Row → Outcome ℕ) → List ℕ → Outcome ℕ
 fromElements writingRows xs = cond (eqb (length xs % 4) 0) (writingRows (rowsIn xs)) (refused 20 0)
 
--- A writing: 20; then 21 and 22, row by row, by the parser of the rows; then 23, more words than the largest event. (24 is of the room: `inWordRoom`.)
+-- A writing: 20; then 21 and 22, row by row, by the parser of the rows, which judges a number that the whole event fixes last of all (`checked`, `lastly`); then 23, more words than
+-- the largest event. (24 is of the room: `inWordRoom`.)
 abbrev pub writingBy : {Event : Type 0} → (Event → List ℕ) → (largest : ℕ) → Parser Row Event → List ℕ → Outcome ℕ
 writingBy words largest parser = fromElements (λ rs. limited 23 largest (outcome (λ e. done (words e)) (parser 0 rs)))
 

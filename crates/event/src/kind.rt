@@ -1,4 +1,4 @@
-// The kinds of row of document 01, 'Rows': those of dialect S from 1 on, those of dialect F from 16 on.
+// The kinds of row of documents 01, 'Rows', and 02: those of dialect S from 1 on, those of dialect F from 16 on, those of dialect R from 32 on.
 
 pub const PACKET: u32 = 1;
 
@@ -35,3 +35,13 @@ pub const EMPTY_MODULE: u32 = 20;
 pub const MODULE: u32 = 21;
 
 pub const VALUE: u32 = 22;
+
+pub const REGION: u32 = 32;
+
+pub const REGION_WORD: u32 = 33;
+
+pub const REGION_SCALER: u32 = 34;
+
+pub const VDC_MODULE: u32 = 35;
+
+pub const VDC_DATUM: u32 = 36;

@@ -1,4 +1,4 @@
-// The refusal numbers of document 01: of a reading 1 to 12, of a writing 20 to 24, of a hexadecimal line 30 and 24, of a host's call 31.
+// The refusal numbers of documents 01 and 02: of a reading 1 to 13, of a writing 20 to 24, of a hexadecimal line 30 and 24, of a host's call 31.
 
 // The event has too few or too many words; in a host's call also an odd number of bytes.
 pub const SIZE: u32 = 1;
@@ -8,11 +8,11 @@ pub const EVENT_LENGTH: u32 = 2;
 pub const EVENT_TAG: u32 = 3;
 // S: word 2 is not version 5.
 pub const VERSION: u32 = 4;
-// A packet's length is below 2 or above what remains; an F block does not fit.
+// A packet's length is below 2 or above what remains; an F block or an R region does not fit.
 pub const EXTENT: u32 = 5;
-// S: a tag unknown or not allowed there; F: not a header allowed there.
+// S: a tag unknown or not allowed there; F: not a header allowed there; R: an id not allowed there, or no region 15.
 pub const TAG: u32 = 6;
-// A length that its tag, or its hodoscope id, does not allow.
+// A length that its tag, or its hodoscope id, does not allow; R: a size that its id does not allow.
 pub const LENGTH: u32 = 7;
 // An id that is not allowed.
 pub const ID: u32 = 8;
@@ -24,6 +24,8 @@ pub const DATA: u32 = 10;
 pub const REPEATED: u32 = 11;
 // More rows than room.
 pub const ROOM: u32 = 12;
+// R: the sum of all words is not 0 modulo 65,536.
+pub const SUM: u32 = 13;
 // The element count is not a multiple of four.
 pub const ELEMENTS: u32 = 20;
 // A kind, or the tag of a row of kind 1, that may not stand there; the rows end too early.

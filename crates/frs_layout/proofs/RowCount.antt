@@ -6,7 +6,8 @@ use mathlib.Core.Path.{_≡_, refl, ap}
 use mathlib.Core.List.{List, [], _∷_}
 use mathlib.Core.Option.{Option, none, some}
 use lib.ListN.{length, length-append, length-map}
-use Rattle.event.specs.Parser.{each, ifAny}
+use Rattle.event.specs.Parser.{ifAny}
+use Rattle.event.proofs.Elements.{each-shorter}
 use Rattle.frs_layout.specs.Event.{PatternUnit, Module, empty, withData, Event}
 use Rattle.frs_layout.specs.Layout.{patternWords, moduleWords, words, scalerRowsFrom, patternRows, moduleRows, rows}
 
@@ -22,9 +23,5 @@ in-module : (m : Module) → length (moduleRows m) ≤ length (moduleWords m)
 in-module (empty geo) = omega arith
 in-module (withData geo vs counter) = simp (length-append, length-map) (omega arith)
 
-in-modules : (ms : List Module) → length (each moduleRows ms) ≤ length (each moduleWords ms)
-in-modules [] = omega arith
-in-modules (m ∷ ms) = simp length-append (omega (arith, in-module m, in-modules ms))
-
 pub no-more-rows : (e : Event) → length (rows e) ≤ length (words e)
-no-more-rows e = simp (length-append, scaler-count) (omega (arith, in-pattern (e .pattern), in-modules (e .modules)))
+no-more-rows e = simp (length-append, scaler-count) (omega (arith, in-pattern (e .pattern), each-shorter moduleRows moduleWords in-module (e .modules)))

@@ -7,12 +7,12 @@ use mathlib.Core.List.{List, [], _∷_, _++_, map}
 use lib.Dec.{T, eqb, eqb→eq}
 use lib.ListN.{length}
 use Rattle.event.specs.declared.Row.{Row}
-use Rattle.event.specs.Parser.{Passed, ended, prints, Goods, All}
+use Rattle.event.specs.Parser.{Passed, ended, prints, Goods}
 use Rattle.event.specs.Writing.{ofKind}
 use Rattle.event.proofs.Codes.{Codes, any, At, same, codes-give}
 use Rattle.event.proofs.Sequences.{codes-bind, codes-map}
 use Rattle.event.proofs.Many.{codes-times}
-use Rattle.event.proofs.Elements.{prints-map}
+use Rattle.event.proofs.Elements.{prints-map, goods-all, all-goods}
 use Rattle.event.proofs.RowCodes.{codes-row}
 use Rattle.event.proofs.Impossible.{impossible}
 use Rattle.frs_layout.specs.Event.{Module, empty, withData}
@@ -33,19 +33,11 @@ prints-scalers i (v ∷ vs) = ap (scalerRow i v ∷_) (prints-scalers (suc i) vs
 abbrev GoodScaler : ℕ → Type 0
 GoodScaler v = Passed (scalerChecks 0 v)
 
-scalers-good : (i : ℕ) (vs : List ℕ) → All GoodScaler vs → Goods (λ j. GoodScaler) nextIndex i vs
-scalers-good i [] g = tt
-scalers-good i (v ∷ vs) g = (g .0, scalers-good (suc i) vs (g .1))
-
-good-scalers : (i : ℕ) (vs : List ℕ) → Goods (λ j. GoodScaler) nextIndex i vs → All GoodScaler vs
-good-scalers i [] g = tt
-good-scalers i (v ∷ vs) g = (g .0, good-scalers (suc i) vs (g .1))
-
 pub codes-scaler : Codes any scaler scalerRows ValidScalers
 codes-scaler = same
     (codes-bind length (codes-row (ofKind 17) _ scalerBlockRow (countChecks 22) (λ n. tt) (λ n g. refl))
     (λ n g. codes-times nextIndex (λ i. codes-row (ofKind 18) (λ r. r .datum) (scalerRow i) (scalerChecks 22) (λ v. tt) (λ v g. refl)) n 0) (λ n vs g. g .0))
-    (λ vs g. (g .0, good-scalers 0 vs (g .1 .1))) (λ vs g. (g .0, (refl, scalers-good 0 vs (g .1)))) (λ vs g. ap (scalerBlockRow (length vs) ∷_) (prints-scalers 0 vs))
+    (λ vs g. (g .0, goods-all GoodScaler nextIndex 0 vs (g .1 .1))) (λ vs g. (g .0, (refl, all-goods GoodScaler nextIndex 0 vs (g .1)))) (λ vs g. ap (scalerBlockRow (length vs) ∷_) (prints-scalers 0 vs))
 
 -- modules: the first row, then the values
 abbrev headerIn : Module → Header

@@ -4,12 +4,12 @@ use Prim.Native.Nat.{ℕ, _+_, _%_, _≤_}
 use native.Mathlib.Omega.{arith}
 use mathlib.Core.Path.{_≡_, refl}
 use mathlib.Core.Bool.{Bool, _&&_}
-use mathlib.Core.List.{List, [], _∷_, map}
+use mathlib.Core.List.{List, [], map}
 use lib.Dec.{T}
 use lib.ListN.{length, length-append, length-map}
 use borrow.Author.Tests.{eq-eqb, le-leb}
 use Rattle.event.specs.Parser.{each}
-use Rattle.event.proofs.Elements.{in-between}
+use Rattle.event.proofs.Elements.{in-between, each-length}
 use Rattle.event.proofs.Keys.{unused, at-most}
 use Rattle.s800_layout.specs.Event.{Datum, Pair, energies, hits, focalPlaneTime, intermediateCrdc, targetPin, intermediateTrack, intermediatePpac, objectScintillator, Form, trigger, timeOfFlight, scintillator, ionChamber, crdc, hodoscope, objectPin, vmeAdc, opaque, Content, samplesTag, anodeTag, tag, formOf, ChannelFormat, triggerTime, flightTime, pairEnergy, energy16, adcEnergy}
 use Rattle.s800_layout.specs.Layout.{framed, datumWord, pairWords, sampleWords, samplesWords, anodeWords, contentWords, ValidDatum, ValidData, ValidPair, ValidContent}
@@ -35,10 +35,6 @@ form-back (opaque objectScintillator) = refl
 pub few : (f : ChannelFormat) (xs : List Datum) → ValidData f xs → length (map (datumWord f) xs) ≤ unused (f .allowed) []
 few f xs v = rw (length-map xs (datumWord f)) (at-most (λ (d : Datum). d .channel) (f .allowed) (ValidDatum f) (λ seen d g. (g .0, g .1 .1 .0)) [] xs v)
 
-twice : {A : Type 0} (f : A → List ℕ) → ((a : A) → length (f a) ≡ 2) → (xs : List A) → length (each f xs) ≡ length xs + length xs
-twice f two [] = refl
-twice f two (x ∷ xs) = omega (arith, length-append (f x) (each f xs), two x, twice f two xs)
-
 is-even : (n : ℕ) (b : Bool) → n % 2 ≡ 0 → T b → T (even n && b)
 is-even n b e t = rw (eq-eqb (n % 2) 0 e) t
 
@@ -49,12 +45,12 @@ pub length-allowed : (f : Form) (c : Content f) → ValidContent f c → T (allo
 length-allowed trigger c v = in-between 3 7 (size trigger c) (omega arith) (omega (arith, few triggerTime (c .times) (v .1)))
 length-allowed timeOfFlight xs v = in-between 2 10 (size timeOfFlight xs) (omega arith) (omega (arith, few flightTime xs v))
 length-allowed scintillator xs v =
-    let h = twice pairWords (λ x. refl) xs in
+    let h = each-length pairWords 2 (λ x. refl) xs in
     let m = at-most (λ (x : Pair). x .energy .channel) (pairEnergy .allowed) ValidPair (λ seen x g. (g .0 .0, g .0 .1 .1 .0)) [] xs v in
     is-even (2 + length (each pairWords xs)) _ (omega (arith, h)) (in-between 2 14 (size scintillator xs) (omega arith) (omega (arith, h, m)))
 length-allowed ionChamber xs v = in-between 4 20 (size ionChamber xs) (omega arith) (omega (arith, few energy16 xs v))
 length-allowed crdc c v =
-    let h = twice sampleWords (λ x. refl) (c .samples .samples) in
+    let h = each-length sampleWords 2 (λ x. refl) (c .samples .samples) in
     let k = length-append (framed samplesTag (samplesWords (c .samples))) (framed anodeTag (anodeWords (c .anode))) in
     is-even (2 + length (contentWords crdc c)) _ (omega (arith, h, k)) (rw (le-leb 10 (2 + length (contentWords crdc c)) (omega (arith, k))) tt)
 length-allowed hodoscope (energies id xs) v = in-between 3 19 (size hodoscope (energies id xs)) (omega arith) (omega (arith, few energy16 xs (v .1)))

@@ -62,7 +62,7 @@ packet-fits timeOfFlight xs v = frame (tag timeOfFlight) tt (data-fit flightTime
 packet-fits scintillator xs v = frame (tag scintillator) tt (items pairChannels pairWords pair-fits [] xs v)
 packet-fits ionChamber xs v = frame (tag ionChamber) tt (frame energiesTag tt (data-fit energy16 (omega arith) xs v))
 packet-fits crdc c v =
-    let samples = items alone sampleWords (λ u. sample-fits) tt (c .samples .samples) (all-goods _ (c .samples .samples) (v .2)) in
+    let samples = items alone sampleWords (λ u. sample-fits) tt (c .samples .samples) (all-goods _ alone tt (c .samples .samples) (v .2)) in
     frame (tag crdc) tt (word (c .id) (omega tests)
     (joined (frame samplesTag tt (word (c .samples .threshold) (v .1 .0) samples)) (frame anodeTag tt (known (anodeWords (c .anode)) (v .3)))))
 packet-fits hodoscope (energies id xs) v = frame (tag hodoscope) tt (word id (omega tests) (data-fit energy16 (omega arith) xs (v .1)))

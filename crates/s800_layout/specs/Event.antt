@@ -1,9 +1,8 @@
 -- Dialect S as data: one S800 event, version 5, before any word or row is written (documents 000 and 01).
 -- Assumes nothing.
 use Prim.Native.Nat.{ℕ, zero, suc, _^_}
-use mathlib.Core.Bool.{cond}
 use mathlib.Core.List.{List, [], _∷_, _++_, map}
-use lib.Dec.{eqb}
+use Rattle.event.specs.Parser.{lookUp}
 
 -- one time or energy of a channel
 pub record Datum : Type 0 where
@@ -155,12 +154,8 @@ abbrev forms : List Form
 forms = trigger ∷ timeOfFlight ∷ scintillator ∷ ionChamber ∷ crdc ∷ hodoscope ∷ objectPin ∷ vmeAdc ∷ map opaque opaques
 
 -- the form of a tag; where no form has it, one whose own tag is another
-abbrev lookUp : List Form → ℕ → Form
-lookUp [] t = trigger
-lookUp (f ∷ fs) t = cond (eqb t (tag f)) f (lookUp fs t)
-
 abbrev pub formOf : ℕ → Form
-formOf t = lookUp forms t
+formOf t = lookUp tag trigger forms t
 
 -- the id of a hodoscope's hits; those of its energies are below
 abbrev pub hitsId : ℕ

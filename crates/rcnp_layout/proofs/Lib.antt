@@ -1,0 +1,14 @@
+pub mod Sizes
+pub mod Event
+pub mod Words
+pub mod Rows
+pub mod Reading
+pub mod Writing
+pub mod Width
+pub mod RowCount
+pub mod Refusals
+pub mod WritingRefusals
+pub mod Edges
+pub mod EdgesOfWriting
+pub mod Rooms
+pub mod Sums
