@@ -27,3 +27,4 @@ pub mod RowJudged
 pub mod WritingTurns
 pub mod PartTurns
 pub mod Vectors
+pub mod Tables
