@@ -1,0 +1,4 @@
+pub mod VdcWords
+pub mod Headers
+pub mod ScalerWords
+pub mod RegionLaws
