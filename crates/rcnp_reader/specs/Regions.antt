@@ -1,6 +1,6 @@
 -- Regions as the code reads them (the contracts of private functions).
 -- Assumes nothing.
-use Prim.Native.Nat.{ℕ, _+_, _/_, _%_, _^_, _≤_}
+use Prim.Native.Nat.{ℕ, _+_, _-_, _/_, _%_, _^_, _≤_, _<_}
 use mathlib.Core.Path.{_≡_}
 use mathlib.Core.Bool.{Bool, _&&_}
 use mathlib.Core.List.{List}
@@ -12,7 +12,7 @@ use Rattle.event.specs.declared.Row.{Row}
 use Rattle.event.specs.Parser.{Parser, refuse, _>>=_, _>>_, give, finish}
 use Rattle.event.specs.Rows.{storeRow}
 use Rattle.event.specs.Scanning as scanning
-use Rattle.rcnp_layout.specs.Event.{Form, vdc, idOf}
+use Rattle.rcnp_layout.specs.Event.{vdc, idOf, formOf}
 use Rattle.rcnp_layout.specs.Layout.{vdcWord, vdcFits, vdcRow, allowedSize, regionRow, regionRows}
 use Rattle.rcnp_layout.specs.Reading.{vdcOf, region, sumRegion}
 use Rattle.rcnp_reader.specs.declared.Opened.{Opened}
@@ -29,18 +29,18 @@ vdcWordRow w = vdcRow (vdcOf w)
 abbrev pub lastParts : Parser ℕ ℕ
 lastParts = sumRegion >>= λ w. finish 6 >> give w
 
--- the header of a region of form f stands at i, and its words, which end at `end`, are there and as many as its id allows
-pub record Headed (ws : List ℕ) (i : ℕ) (f : Form) (end : ℕ) : Type 0 where
-  pub header : getD ws i 0 / 2 ^ 12 ≡ idOf f
-  pub extent : end ≡ i + 1 + getD ws i 0 % 2 ^ 12
-  pub inside : end ≤ length ws
-  pub allowed : T (allowedSize f (getD ws i 0 % 2 ^ 12))
+-- a header with this id and size stands at i; some form has the id, the words are there, and as many as the id allows
+pub record Headed (ws : List ℕ) (i id size : ℕ) : Type 0 where
+  pub inBits : (getD ws i 0 / 2 ^ 12 ≡ id) × (getD ws i 0 % 2 ^ 12 ≡ size)
+  pub known : id ≡ idOf (formOf id)
+  pub inside : i + 1 + size ≤ length ws
+  pub allowed : T (allowedSize (formOf id) size)
 
 -- the region at i was read after k rows; or it is refused; or it is a VDC region, of which its own row is stored
 module _ (ws : List ℕ) (i k : ℕ) (before after : List ℕ) where
   abbrev OpensAs : Opened → Type 0
   OpensAs (Whole next count) = scanning.Whole regionRows (region i (drop i ws)) ws k before after next count
-  OpensAs (Chamber end) = Headed ws i vdc end × (after ≡ storeRow before k (regionRow (idOf vdc) (getD ws i 0 % 2 ^ 12)))
+  OpensAs (Chamber end) = Headed ws i (idOf vdc) (end - (i + 1)) × (i < end) × (after ≡ storeRow before k (regionRow (idOf vdc) (end - (i + 1))))
   OpensAs (Refused n p) = region i (drop i ws) ≡ refuse n p
 
   pub record Opens (r : Opened) : Type 0 where

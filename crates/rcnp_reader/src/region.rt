@@ -8,11 +8,10 @@ use event::Row;
 use event::kind;
 use event::refusal;
 use event::rows::store_row;
-ghost use Prim.Native.Nat.{_+_, _≤_, _<_};
+ghost use Prim.Native.Nat.{_≤_, _<_};
 ghost use mathlib.Core.Path.{_≡_};
 ghost use lib.ListN.{length};
 ghost use denote.Ref.{now};
-ghost use Rattle.rcnp_layout.specs.Event.{idOf, formOf};
 ghost use Rattle.rcnp_reader.specs.Regions.{Headed, Opens, readTo};
 
 // Refusals 6, 5 and 7 of the header at `at`, then the region; the words of a VDC region are left to the caller.
@@ -51,7 +50,7 @@ fn read_region(
     rows: &mut [u32],
     count: usize,
 ) -> Opened
-    requires { ⌜ Headed (now words) at (formOf id) (at + 1 + size) × (id ≡ idOf (formOf id)) × (count ≤ at) ⌝ }
+    requires { ⌜ Headed (now words) at id size × (count ≤ at) ⌝ }
     ensures { λ r. ⌜ Opens (now (words .entry)) at count (now (rows .entry)) (now (rows .exit)) r ⌝ }
 {
     let row = Row {
