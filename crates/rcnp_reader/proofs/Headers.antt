@@ -35,6 +35,17 @@ before-sum ws i e = go (leb (length ws) i) refl
     go true l = let z : true ≡ false = sum-at-end ws i (leb-true (length ws) i l) ∙ e in impossible cc
     go false l = leb-false (length ws) i l
 
+-- what fills a region with its header at i
+module _ {A : Type 0} (ws : List ℕ) (i size : ℕ) (allowed : Bool) (content : Parser ℕ A) where
+  abbrev Filling : Result ℕ A → Type 0
+  Filling x = filling i size allowed content (i + 1) (slice (i + 1) (length ws) ws) ≡ x
+
+  pub filling-short : i < length ws → length ws ≤ i + size → Filling (refuse 5 i)
+  filling-short below l = within-short 5 i size (require allowed 7 i >> content) (i + 1) (length ws) ws (le-refl (length ws)) (omega arith) (omega arith)
+
+  pub filling-fits : i + 1 + size ≤ length ws → Filling (filled (slice (i + 1 + size) (length ws) ws) ((require allowed 7 i >> content) (i + 1) (slice (i + 1) (i + 1 + size) ws)))
+  filling-fits l = within-slice 5 i size (require allowed 7 i >> content) (i + 1) (length ws) ws (le-refl (length ws)) l
+
 -- the header at i
 module _ (ws : List ℕ) (i : ℕ) (below : i < length ws) where
   abbrev id : ℕ
@@ -46,7 +57,7 @@ module _ (ws : List ℕ) (i : ℕ) (below : i < length ws) where
   abbrev here : Result ℕ Region
   here = region i (drop i ws)
 
-  there : drop i ws ≡ getD ws i 0 ∷ slice (i + 1) (length ws) ws
+  pub there : drop i ws ≡ getD ws i 0 ∷ slice (i + 1) (length ws) ws
   there = drop-cons ws i 0 below ∙ ap (getD ws i 0 ∷_) (to-the-end (suc i) ws ∙ rw (add-one i))
 
   no-form : (id ≡ idOf (formOf id) → ⊥) → here ≡ refuse 6 i
@@ -55,16 +66,6 @@ module _ (ws : List ℕ) (i : ℕ) (below : i < length ws) where
   module _ (f : Form) (e : formOf id ≡ f) (g : id ≡ idOf f) where
     known : here ≡ filling i size (allowedSize f size) (regionContent f) (i + 1) (slice (i + 1) (length ws) ws)
     known = rw (there, e, eq-eqb (getD ws i 0) (headerWord (idOf f) size) (omega arith), lt-ltb size (2 ^ 12) (omega arith), add-one i)
-
-    -- 7, else its words
-    abbrev behind : Parser ℕ Region
-    behind = require (allowedSize f size) 7 i >> regionContent f
-
-    short : length ws ≤ i + size → here ≡ refuse 5 i
-    short l = known ∙ within-short 5 i size behind (i + 1) (length ws) ws (le-refl (length ws)) (omega arith) (omega arith)
-
-    fits : i + 1 + size ≤ length ws → here ≡ filled (slice (i + 1 + size) (length ws) ws) (behind (i + 1) (slice (i + 1) (i + 1 + size) ws))
-    fits l = known ∙ within-slice 5 i size behind (i + 1) (length ws) ws (le-refl (length ws)) l
 
   -- as the code tests it: w is the header's word, `form` and `fit` are what the tests answered
   module _ {w : ℕ} (d : w ≡ getD ws i 0) (form : Bool) (e : form ≡ eqb (w / 2 ^ 12) (idOf (formOf (w / 2 ^ 12)))) where
@@ -76,13 +77,14 @@ module _ (ws : List ℕ) (i : ℕ) (below : i < length ws) where
       found = eqb-true id (idOf (formOf id)) (rw d at (sym e ∙ not-false form t))
 
       pub refused-5 : length ws - i ≤ w % 2 ^ 12 → here ≡ refuse 5 i
-      refused-5 l = short (formOf id) refl found (omega arith)
+      refused-5 l = let f = formOf id in known f refl found ∙ filling-short ws i size (allowedSize f size) (regionContent f) below (omega arith)
 
       module _ (l : w % 2 ^ 12 < length ws - i) (fit : Bool) (a : fit ≡ allowedSize (formOf (w / 2 ^ 12)) (w % 2 ^ 12)) where
         pub refused-7 : not fit ≡ true → here ≡ refuse 7 i
         refused-7 n =
-            let no : allowedSize (formOf id) size ≡ false = rw d at (sym a ∙ not-true fit n) in
-            fits (formOf id) refl found (omega arith) ∙ rw no
+            let f = formOf id in
+            let no : allowedSize f size ≡ false = rw d at (sym a ∙ not-true fit n) in
+            known f refl found ∙ filling-fits ws i size (allowedSize f size) (regionContent f) (omega arith) ∙ rw no
 
         pub good-header : not fit ≡ false → Headed ws i (w / 2 ^ 12) (w % 2 ^ 12)
         good-header y = record {
@@ -114,4 +116,6 @@ pub of-content : {ws : List ℕ} {i : ℕ} {f : Form} {end : ℕ} → OfForm ws 
 of-content {ws} {i} {f} {end} h =
     let e = h .extent in
     let below : i < length ws = omega (arith, h .inside) in
-    fits ws i below f (ap formOf (h .header) ∙ form-back f) (h .header) (omega (arith, h .inside)) ∙ rw (T-true (allowedSize f (getD ws i 0 % 2 ^ 12)) (h .allowed), ← e, to-the-end end ws)
+    known ws i below f (ap formOf (h .header) ∙ form-back f) (h .header)
+    ∙ filling-fits ws i (getD ws i 0 % 2 ^ 12) (allowedSize f (getD ws i 0 % 2 ^ 12)) (regionContent f) (omega (arith, h .inside))
+    ∙ rw (T-true (allowedSize f (getD ws i 0 % 2 ^ 12)) (h .allowed), ← e, to-the-end end ws)

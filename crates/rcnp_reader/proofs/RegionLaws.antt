@@ -162,12 +162,21 @@ module _ {ws : List ℕ} {i k id size : ℕ} {b b₁ : List ℕ} (h : RowStored 
           let read = at-end (codes-content scaler) (ends-many ended (λ u. scalerValue) alone tt) (i + 1) end ws (omega arith) (here .inside) vs j l d in
           record { opened = content-read here vs read (h .few) (form-row scaler e) (t .stored) n }
 
-  pub chamber-refused : {n p : ℕ} → id ≡ 7 → content vdc (i + 1) (slice (i + 1) (i + 1 + size) ws) ≡ refuse n p → region i (drop i ws) ≡ refuse n p
-  chamber-refused e d = content-refused (form-here vdc e) d
+-- a VDC region, by its words
+module _ {ws : List ℕ} {i k end : ℕ} {b b₁ : List ℕ} (o : Opens ws i k b b₁ (Chamber end)) where
+  pub chamber-inside : (i + 1 ≤ end) × (end ≤ length ws)
+  chamber-inside = omega (arith, o .opened .0 .inside, o .opened .1)
 
-  pub chamber-taken : {b₂ : List ℕ} → id ≡ 7 → let l = slice (i + 1) (i + 1 + size) ws in content vdc (i + 1) l ≡ ok (map vdcOf l) (i + 1 + size) []
-      → b₂ ≡ storeRows b₁ (k + 1) (map vdcWordRow l) → Whole regionRows (region i (drop i ws)) ws k b b₂ (i + 1 + size) (k + 1 + size)
-  chamber-taken e d s =
-      let l = slice (i + 1) (i + 1 + size) ws in
-      content-read (form-here vdc e) (map vdcOf l) d (h .few) (form-row vdc e) (s ∙ ap (storeRows b₁ (k + 1)) (sym (map-map vdcRow vdcOf l)))
-      (omega (arith, length-map (map vdcOf l) vdcRow, length-map l vdcOf, length-slice (i + 1) (i + 1 + size) ws (h .headed .inside)))
+  chamber-form : OfForm ws i vdc end
+  chamber-form = let z : i + 1 + (end - (i + 1)) ≡ end = omega (arith, o .opened .1) in rw z at (of-form (o .opened .0) vdc refl)
+
+  pub chamber-refused : {n p : ℕ} → content vdc (i + 1) (slice (i + 1) end ws) ≡ refuse n p → region i (drop i ws) ≡ refuse n p
+  chamber-refused e = content-refused chamber-form e
+
+  pub chamber-taken : {b₂ : List ℕ} → k ≤ i → content vdc (i + 1) (slice (i + 1) end ws) ≡ ok (map vdcOf (slice (i + 1) end ws)) end []
+      → b₂ ≡ storeRows b₁ (k + 1) (map vdcWordRow (slice (i + 1) end ws)) → Whole regionRows (region i (drop i ws)) ws k b b₂ end (k + 1 + (end - (i + 1)))
+  chamber-taken few e s =
+      let l = slice (i + 1) end ws in
+      let own : b₁ ≡ storeRow b k (regionRow (idOf vdc) (getD ws i 0 % 2 ^ 12)) = rw (o .opened .0 .inBits .1) (o .opened .2) in
+      content-read chamber-form (map vdcOf l) e few own (s ∙ ap (storeRows b₁ (k + 1)) (sym (map-map vdcRow vdcOf l)))
+      (omega (arith, length-map (map vdcOf l) vdcRow, length-map l vdcOf, length-slice (i + 1) end ws (chamber-inside .1)))

@@ -81,15 +81,15 @@ pub record ChamberTo (ws : List ℕ) (end first : ℕ) (begun : Bool) (i : ℕ) 
   pub inside : i ≤ end
   pub taken : TakenTo vdcValue begins ended false first (slice first end ws) (map vdcOf (slice first i ws)) begun i (slice i end ws)
 
-pub chamber-begin : (ws : List ℕ) (end first : ℕ) → first ≤ end → ChamberTo ws end first false first
-chamber-begin ws end first l = record { from = le-refl first; inside = l; taken = rw (slice-empty first ws) (none-taken vdcValue begins ended false first (slice first end ws)) }
+pub vdc-begin : (ws : List ℕ) (end first : ℕ) → first ≤ end → ChamberTo ws end first false first
+vdc-begin ws end first l = record { from = le-refl first; inside = l; taken = rw (slice-empty first ws) (none-taken vdcValue begins ended false first (slice first end ws)) }
 
 module _ {ws : List ℕ} {end first : ℕ} {begun : Bool} {i : ℕ} (h : ChamberTo ws end first begun i) where
   abbrev whole : Result ℕ (List VdcWord)
   whole = content vdc first (slice first end ws)
 
-  pub chamber-read : end ≤ i → whole ≡ ok (map vdcOf (slice first end ws)) end []
-  chamber-read l =
+  pub vdc-read : end ≤ i → whole ≡ ok (map vdcOf (slice first end ws)) end []
+  vdc-read l =
       let e : i ≡ end = omega (arith, h .inside) in
       rw (e, slice-empty end ws) at (all-taken (h .taken) (rw (e, slice-empty end ws)))
 
@@ -97,11 +97,11 @@ module _ {ws : List ℕ} {end first : ℕ} {begun : Bool} {i : ℕ} (h : Chamber
     here : slice i end ws ≡ w ∷ slice (suc i) end ws
     here = at-word ws i end below long ∙ rw e
 
-    pub chamber-refused : vdcGood begun w ≡ false → whole ≡ refuse 10 i
-    chamber-refused g = item-refuses (h .taken) codes-vdc (λ st x v r. refl) refl (rw here) (rw here (vdc-judged begun i w (slice (suc i) end ws) ∙ rw g))
+    pub vdc-refused : vdcGood begun w ≡ false → whole ≡ refuse 10 i
+    vdc-refused g = item-refuses (h .taken) codes-vdc (λ st x v r. refl) refl (rw here) (rw here (vdc-judged begun i w (slice (suc i) end ws) ∙ rw g))
 
-    pub chamber-next : vdcGood begun w ≡ true → ChamberTo ws end first true (i + 1)
-    chamber-next g =
+    pub vdc-next : vdcGood begun w ≡ true → ChamberTo ws end first true (i + 1)
+    vdc-next g =
         let one : suc i ≡ i + 1 = omega arith in
         let read : vdcValue begun i (slice i end ws) ≡ ok (vdcOf w) (i + 1) (slice (i + 1) end ws) = rw here (vdc-judged begun i w (slice (suc i) end ws) ∙ rw (g, one)) in
         let more : map vdcOf (slice first (i + 1) ws) ≡ map vdcOf (slice first i ws) ++ (vdcOf w ∷ [])

@@ -1,132 +1,166 @@
+-- `scan::regions` meets its contract. Assumes nothing.
+use Prim.Native.Nat.{ℕ, _+_, _-_, _≤_}
+use native.Mathlib.Omega.{arith}
+use mathlib.Core.Path.{_≡_, sym, _∙_, subst}
+use mathlib.Core.Bool.{false}
+use mathlib.Core.List.{List}
+use lib.ListN.{length, drop}
+use borrow.Author.Needs.{needs}
+use borrow.Author.Tests.{not-true, not-false}
+use Rattle.event.specs.Scanning.{Whole}
+use Rattle.rcnp_layout.specs.Layout.{regionRows}
+use Rattle.rcnp_layout.specs.Reading.{region, atSum}
+use Rattle.rcnp_reader.specs.declared.Opened.{Opened}
+use Rattle.rcnp_reader.specs.declared.Opened.the-variants.{Chamber}
+use Rattle.rcnp_reader.specs.Regions.{Opens}
+use Rattle.rcnp_reader.proofs.Headers.{before-sum}
+use Rattle.rcnp_reader.proofs.RegionLaws.{chamber-inside, chamber-refused, chamber-taken}
+use Rattle.rcnp_reader.proofs.RegionLoop.{RegionsTo, regions-begin, regions-same, regions-done, region-refused, region-longer, region-taken}
+use Rattle.rcnp_reader.proofs.VdcWords.{ChamberTo, vdc-begin, vdc-read, vdc-refused, vdc-next}
 use Rattle.rcnp_reader.proofs.scan.regions.Statement.{statement}
 use Rattle.rcnp_reader.proofs.scan.regions.Tie as tie
-use Rattle.rcnp_reader.proofs.scan.regions.Reads as reads
-use Rattle.rcnp_reader.proofs.scan.regions.Lts as lts
-use Rattle.rcnp_reader.proofs.content.store_chamber.Reads as store-chamber-reads
-use Rattle.rcnp_reader.proofs.region.open_region.Reads as open-region-reads
-use Rattle.rcnp_reader.proofs.word.at_sum.Reads as at-sum-reads
-use Rattle.rcnp_reader.proofs.word.is_vdc.Reads as is-vdc-reads
-use Rattle.rcnp_reader.proofs.word.word.Reads as word-reads
 
 abbrev Inv-loop : tie.InvT-loop
-Inv-loop words rows at₀ count end first begun₀ at begun = ?
+Inv-loop words rows at₀ count end first begun₀ at begun = ChamberTo words end first begun at × (end ≤ length words)
 
 abbrev μ-loop : tie.MeasureT-loop
-μ-loop words rows at₀ count end first begun₀ at begun = ?
+μ-loop words rows at₀ count end first begun₀ at begun = end - at
 
 abbrev Inv-regions : tie.InvT-regions
-Inv-regions words rows₀ at₀ count₀ rows at count = ?
+Inv-regions words rows₀ at₀ count₀ rows at count = RegionsTo words rows₀ at count rows
 
 abbrev μ-regions : tie.MeasureT-regions
-μ-regions words rows₀ at₀ count₀ rows at count = ?
+μ-regions words rows₀ at₀ count₀ rows at count = length words - at
 
--- src/scan.rt:35:5
-regions-holds : tie.Need-regions-holds Inv-loop μ-loop Inv-regions μ-regions
-regions-holds c = ?
+-- The heads of the two loops, and the place before the match on what the header led to.
+abbrev AtRegions : Type 0
+AtRegions = tie.At-regions Inv-loop μ-loop Inv-regions μ-regions
 
--- src/scan.rt:36:12
-at-sum-requires : tie.Need-at-sum-requires Inv-loop μ-loop Inv-regions μ-regions
-at-sum-requires c κs = ?
+abbrev AtWords : Type 0
+AtWords = tie.At-loop Inv-loop μ-loop Inv-regions μ-regions
 
--- src/scan.rt:39:13
-open-region-requires : tie.Need-open-region-requires Inv-loop μ-loop Inv-regions μ-regions
-open-region-requires c κs = ?
+abbrev AtMatch : Type 0
+AtMatch = tie.After-slice-known2 Inv-loop μ-loop Inv-regions μ-regions
 
--- src/scan.rt:41:31
-enum-known-opened : tie.Need-enum-known-opened Inv-loop μ-loop Inv-regions μ-regions
-enum-known-opened c = ?
+module _ (m : AtMatch) where
+  abbrev opening : tie.After-open-region Inv-loop μ-loop Inv-regions μ-regions
+  opening = m .before .before
 
--- src/scan.rt:43:17
-enum-known-opened-2 : tie.Need-enum-known-opened-2 Inv-loop μ-loop Inv-regions μ-regions
-enum-known-opened-2 c = ?
+  abbrev tested : tie.Else1 Inv-loop μ-loop Inv-regions μ-regions
+  tested = opening .before .before
 
--- src/scan.rt:35:5
-regions-less : tie.Need-regions-less Inv-loop μ-loop Inv-regions μ-regions
-regions-less c = ?
+  abbrev head : AtRegions
+  head = tested .before .before
 
--- src/scan.rt:35:5
-regions-again : tie.Need-regions-again Inv-loop μ-loop Inv-regions μ-regions
-regions-again c = ?
+  abbrev entry : tie.Start Inv-loop μ-loop Inv-regions μ-regions
+  entry = head .before .before .before
 
--- src/scan.rt:49:31
-enum-known-opened-3 : tie.Need-enum-known-opened-3 Inv-loop μ-loop Inv-regions μ-regions
-enum-known-opened-3 c = ?
+  abbrev wordsIn : List ℕ
+  wordsIn = entry .args .words .now
 
--- src/scan.rt:50:17
-add-at : tie.Need-add-at Inv-loop μ-loop Inv-regions μ-regions
-add-at c = ?
+  abbrev at : ℕ
+  at = head .regions .at
 
--- src/scan.rt:51:17
-add-count : tie.Need-add-count Inv-loop μ-loop Inv-regions μ-regions
-add-count c = ?
+  abbrev count : ℕ
+  count = head .regions .count
 
--- src/scan.rt:54:17
-loop-holds : tie.Need-loop-holds Inv-loop μ-loop Inv-regions μ-regions
-loop-holds c = ?
+  -- the rows before the region, and after its header
+  abbrev rowsBefore : List ℕ
+  rowsBefore = head .regions .rows
 
--- src/scan.rt:55:39
-word-requires : tie.Need-word-requires Inv-loop μ-loop Inv-regions μ-regions
-word-requires c κs = ?
+  abbrev rowsAfter : List ℕ
+  rowsAfter = opening .open-region .last .1 .1 .0
 
--- src/scan.rt:55:25
-is-vdc-requires : tie.Need-is-vdc-requires Inv-loop μ-loop Inv-regions μ-regions
-is-vdc-requires c κs = ?
+  so-far : RegionsTo wordsIn (entry .args .rows .now) at count rowsBefore
+  so-far = head .regions .inv
 
--- src/scan.rt:62:21
-add-at-2 : tie.Need-add-at-2 Inv-loop μ-loop Inv-regions μ-regions
-add-at-2 c = ?
+  more : false ≡ atSum (drop at wordsIn)
+  more = sym (tested .if1 .left) ∙ tested .before .at-sum .ensures
 
--- src/scan.rt:54:17
-loop-less : tie.Need-loop-less Inv-loop μ-loop Inv-regions μ-regions
-loop-less c = ?
+  opens : {r : Opened} → opening .open-region .result ≡ r → Opens wordsIn at count rowsBefore rowsAfter r
+  opens e = subst (Opens wordsIn at count rowsBefore rowsAfter) e (opening .open-region .ensures)
 
--- src/scan.rt:54:17
+  same : length rowsAfter ≡ length (entry .args .rows .now)
+  same = opening .open-region .kept .1 .1 .0 ∙ regions-same so-far
+
+-- A region that was read whole.
+module _ (t : tie.After-known-told2 Inv-loop μ-loop Inv-regions μ-regions) where
+  abbrev wholeAt : AtMatch
+  wholeAt = t .before .before .before
+
+  abbrev readTo : ℕ
+  readTo = t .before .opened2 .given .0 .0
+
+  abbrev countTo : ℕ
+  countTo = t .before .opened2 .given .0 .1 .0
+
+  read : Whole regionRows (region (at wholeAt) (drop (at wholeAt) (wordsIn wholeAt))) (wordsIn wholeAt) (count wholeAt) (rowsBefore wholeAt) (rowsAfter wholeAt) readTo countTo
+  read = opens wholeAt (t .before .opened2 .given .1) .opened
+
+-- A VDC region: its header, and a turn of the loop over its words.
+module _ (t : tie.After-known-told3 Inv-loop μ-loop Inv-regions μ-regions) where
+  abbrev chamberAt : AtMatch
+  chamberAt = t .before .before .before
+
+  abbrev end : ℕ
+  end = t .before .opened3 .given .0 .0
+
+  chamber : Opens (wordsIn chamberAt) (at chamberAt) (count chamberAt) (rowsBefore chamberAt) (rowsAfter chamberAt) (Chamber end)
+  chamber = opens chamberAt (t .before .opened3 .given .1)
+
+  inside : (at chamberAt + 1 ≤ end) × (end ≤ length (wordsIn chamberAt))
+  inside = chamber-inside chamber
+
+  few : count chamberAt ≤ at chamberAt
+  few = so-far chamberAt .few
+
+abbrev turn : tie.After-is-vdc Inv-loop μ-loop Inv-regions μ-regions → tie.In-loop Inv-loop μ-loop Inv-regions μ-regions
+turn v = v .before .before
+
 loop-again : tie.Need-loop-again Inv-loop μ-loop Inv-regions μ-regions
-loop-again c = ?
+loop-again c =
+    let v = c .before in
+    let i = turn v .before .loop .inv in
+    (vdc-next (i .0) (turn v .loop-test .taken) (i .1) (v .before .word .ensures .0) (sym (v .is-vdc .ensures) ∙ not-false (v .is-vdc .result) (c .if2 .left)), i .1)
 
--- src/scan.rt:64:17
-store-chamber-requires : tie.Need-store-chamber-requires Inv-loop μ-loop Inv-regions μ-regions
-store-chamber-requires c κs = ?
+-- behind the words of a VDC region
+module _ (c : tie.After-slice-known3 Inv-loop μ-loop Inv-regions μ-regions) where
+  abbrev stored : tie.After-store-chamber Inv-loop μ-loop Inv-regions μ-regions
+  stored = c .before .before
 
--- src/scan.rt:65:26
-sub-count : tie.Need-sub-count Inv-loop μ-loop Inv-regions μ-regions
-sub-count c = ?
+  abbrev judged : tie.After-loop Inv-loop μ-loop Inv-regions μ-regions
+  judged = stored .before .before
 
--- src/scan.rt:65:17
-add-count-2 : tie.Need-add-count-2 Inv-loop μ-loop Inv-regions μ-regions
-add-count-2 c = ?
+  abbrev words : AtWords
+  words = judged .before
 
--- src/scan.rt:35:5
+  abbrev top : tie.After-known-told3 Inv-loop μ-loop Inv-regions μ-regions
+  top = words .before
+
+  at-end : words .loop .at ≡ end top
+  at-end = omega (arith, judged .loop-test .left, words .loop .inv .0 .inside)
+
+  taken : let m = chamberAt top in Whole regionRows (region (at m) (drop (at m) (wordsIn m))) (wordsIn m) (count m) (rowsBefore m) (stored .store-chamber .last .1 .1 .1 .0)
+      (end top) (count m + 1 + (end top - (at m + 1)))
+  taken = chamber-taken (chamber top) (few top) (vdc-read (words .loop .inv .0) (judged .loop-test .left)) (stored .store-chamber .ensures)
+
 regions-less-2 : tie.Need-regions-less-2 Inv-loop μ-loop Inv-regions μ-regions
-regions-less-2 c = ?
+regions-less-2 c = let m = chamberAt (top c) in omega (arith, at-end c, region-longer (so-far m) (more m) (taken c), taken c .inside)
 
--- src/scan.rt:35:5
 regions-again-2 : tie.Need-regions-again-2 Inv-loop μ-loop Inv-regions μ-regions
-regions-again-2 c = ?
+regions-again-2 c = let m = chamberAt (top c) in rw (at-end c) (region-taken (so-far m) (more m) (taken c))
 
--- src/scan.rt:30:1
-same-length : tie.Need-same-length Inv-loop μ-loop Inv-regions μ-regions
-same-length c = ?
-
--- src/scan.rt:30:1
-returns : tie.Need-returns Inv-loop μ-loop Inv-regions μ-regions
-returns c = ?
-
--- src/scan.rt:30:1
-same-length-2 : tie.Need-same-length-2 Inv-loop μ-loop Inv-regions μ-regions
-same-length-2 c = ?
-
--- src/scan.rt:30:1
 returns-2 : tie.Need-returns-2 Inv-loop μ-loop Inv-regions μ-regions
-returns-2 c = ?
+returns-2 c = let m = c .before .before .before in region-refused (so-far m) (more m) (rowsAfter m) (opens m (c .before .opened .given .1) .opened)
 
--- src/scan.rt:30:1
-same-length-3 : tie.Need-same-length-3 Inv-loop μ-loop Inv-regions μ-regions
-same-length-3 c = ?
-
--- src/scan.rt:30:1
 returns-3 : tie.Need-returns-3 Inv-loop μ-loop Inv-regions μ-regions
-returns-3 c = ?
+returns-3 c =
+    let v = c .before in
+    let w = turn v .before in
+    let i = w .loop .inv in
+    let m = chamberAt (w .before) in
+    let bad = sym (v .is-vdc .ensures) ∙ not-true (v .is-vdc .result) (c .if2 .taken) in
+    region-refused (so-far m) (more m) (rowsAfter m) (chamber-refused (chamber (w .before)) (vdc-refused (i .0) (turn v .loop-test .taken) (i .1) (v .before .word .ensures .0) bad))
 
 pub regions-spec : {M : Type 1} → statement M
 regions-spec =
@@ -136,30 +170,30 @@ regions-spec =
     μ-loop
     Inv-regions
     μ-regions
-    regions-holds
-    at-sum-requires
-    open-region-requires
-    enum-known-opened
-    enum-known-opened-2
-    regions-less
-    regions-again
-    enum-known-opened-3
-    add-at
-    add-count
-    loop-holds
-    word-requires
-    is-vdc-requires
-    add-at-2
-    loop-less
+    (λ c. regions-begin)
+    (λ c κs. search needs)
+    (λ c κs. let e = c .before in (before-sum _ _ (sym (e .before .at-sum .ensures) ∙ e .if1 .left), e .before .before .regions .inv .few))
+    (λ c. search needs)
+    (λ c. search needs)
+    (λ c. let m = wholeAt c in omega (arith, region-longer (so-far m) (more m) (read c), read c .inside))
+    (λ c. let m = wholeAt c in region-taken (so-far m) (more m) (read c))
+    (λ c. search needs)
+    (λ c. omega (arith, inside c))
+    (λ c. omega (arith, inside c, few c))
+    (λ c. (vdc-begin _ _ _ (inside c .0), inside c .1))
+    (λ c κs. omega (arith, c .before .loop .inv .1))
+    (λ c κs. c .word .ensures .1)
+    (λ c. let t = turn (c .before) in omega (arith, t .loop-test .taken, t .before .loop .inv .1))
+    (λ c. omega arith)
     loop-again
-    store-chamber-requires
-    sub-count
-    add-count-2
+    (λ c κs. inside (c .before .before .before))
+    (λ c. inside (top c) .0)
+    (λ c. omega (arith, inside (top c), few (top c)))
     regions-less-2
     regions-again-2
-    same-length
-    returns
-    same-length-2
+    (λ c. regions-same (c .before .before .regions .inv))
+    (λ c. regions-done (c .before .before .regions .inv) (sym (c .if1 .taken) ∙ c .before .at-sum .ensures))
+    (λ c. same (c .before .before .before))
     returns-2
-    same-length-3
+    (λ c. same (chamberAt (turn (c .before) .before .before)))
     returns-3)

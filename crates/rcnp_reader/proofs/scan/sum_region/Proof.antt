@@ -1,124 +1,93 @@
+-- `scan::sum_region` meets its contract. Assumes nothing.
+use Prim.Native.Nat.{ℕ, _<_}
+use native.Mathlib.Omega.{arith}
+use mathlib.Core.Path.{_≡_, _∙_}
+use mathlib.Core.List.{List}
+use lib.ListN.{getD}
 use borrow.Author.Needs.{needs}
+use Rattle.event.proofs.Leads.{scanned-refuse}
+use Rattle.rcnp_layout.specs.Layout.{sumRows}
+use Rattle.rcnp_reader.proofs.SumRegion.{no-sum, sum-short, sum-size, more-words, sum-read}
 use Rattle.rcnp_reader.proofs.scan.sum_region.Statement.{statement}
 use Rattle.rcnp_reader.proofs.scan.sum_region.Tie as tie
-use Rattle.rcnp_reader.proofs.scan.sum_region.Reads as reads
-use Rattle.rcnp_reader.proofs.scan.sum_region.Lts as lts
-use Rattle.event.proofs.rows.store_row.Reads as store-row-reads
-use Rattle.rcnp_reader.proofs.content.word_row.Reads as word-row-reads
-use Rattle.rcnp_reader.proofs.scan.refuse.Reads as refuse-reads
-use Rattle.rcnp_reader.proofs.word.word.Reads as word-reads
 
--- src/scan.rt:77:9
-refuse-requires : tie.Need-refuse-requires
-refuse-requires c κs = search needs
+-- Behind the header's word: the entry, and that the words have 16 bits.
+module _ (w : tie.After-word) where
+  abbrev entry : tie.Start
+  entry = w .before .before .before .before
 
--- src/scan.rt:77:9
+  abbrev wordsIn : List ℕ
+  wordsIn = entry .args .words .now
+
+  abbrev rowsIn : List ℕ
+  rowsIn = entry .args .rows .now
+
+  fits : (j : ℕ) → getD wordsIn j 0 < 65536
+  fits j = omega (arith, w .before .before .before .shared-slice-known .given j)
+
 returns : tie.Need-returns
-returns c = ?
+returns c =
+    let t = c .before in
+    let s = t .before .before .before in
+    rw (c .refuse .ensures) (scanned-refuse sumRows (s .args .count) (s .args .rows .now) (s .args .rows .now) (no-sum (s .args .words .now) (s .args .at) (t .if1 .taken)))
 
--- src/scan.rt:79:16
-word-requires : tie.Need-word-requires
-word-requires c κs = search needs
-
--- src/scan.rt:80:8
-sub-if2 : tie.Need-sub-if2
-sub-if2 c = search needs
-
--- src/scan.rt:80:28
-cast-if2 : tie.Need-cast-if2
-cast-if2 c = search needs
-
--- src/scan.rt:81:9
-refuse-requires-2 : tie.Need-refuse-requires-2
-refuse-requires-2 c κs = search needs
-
--- src/scan.rt:81:9
 returns-2 : tie.Need-returns-2
-returns-2 c = ?
+returns-2 c =
+    let w = c .before .before in
+    let s = entry w in
+    rw (c .refuse2 .ensures) (scanned-refuse sumRows (s .args .count) (rowsIn w) (rowsIn w)
+    (sum-short (wordsIn w) (s .args .at) (s .pre .2) (w .before .if1 .left) (w .word .ensures .0) (c .before .if2 .taken)))
 
--- src/scan.rt:84:9
-refuse-requires-3 : tie.Need-refuse-requires-3
-refuse-requires-3 c κs = search needs
-
--- src/scan.rt:84:9
 returns-3 : tie.Need-returns-3
-returns-3 c = ?
+returns-3 c =
+    let e = c .before .before in
+    let w = e .before in
+    let s = entry w in
+    rw (c .refuse3 .ensures) (scanned-refuse sumRows (s .args .count) (rowsIn w) (rowsIn w)
+    (sum-size (wordsIn w) (s .args .at) (s .pre .2) (w .before .if1 .left) (w .word .ensures .0) (e .if2 .left) (c .before .if3 .taken)))
 
--- src/scan.rt:86:12
-sub-if4 : tie.Need-sub-if4
-sub-if4 c = search needs
-
--- src/scan.rt:87:37
-add-refuse : tie.Need-add-refuse
-add-refuse c = search needs
-
--- src/scan.rt:87:9
-refuse-requires-4 : tie.Need-refuse-requires-4
-refuse-requires-4 c κs = search needs
-
--- src/scan.rt:87:9
 returns-4 : tie.Need-returns-4
-returns-4 c = ?
+returns-4 c =
+    let e = c .before .before in
+    let w = e .before .before in
+    let s = entry w in
+    rw (c .refuse4 .ensures) (scanned-refuse sumRows (s .args .count) (rowsIn w) (rowsIn w)
+    (more-words (wordsIn w) (s .args .at) (s .pre .2) (w .before .if1 .left) (w .word .ensures .0) (e .before .if2 .left) (e .if3 .left) (fits w) (c .before .if4 .taken)))
 
--- src/scan.rt:95:5
-store-row-requires : tie.Need-store-row-requires
-store-row-requires c κs = search needs
-
--- src/scan.rt:96:21
-add-store-row : tie.Need-add-store-row
-add-store-row c = search needs
-
--- src/scan.rt:96:53
-add-word : tie.Need-add-word
-add-word c = search needs
-
--- src/scan.rt:96:41
-word-requires-2 : tie.Need-word-requires-2
-word-requires-2 c κs = search needs
-
--- src/scan.rt:96:32
-word-row-requires : tie.Need-word-row-requires
-word-row-requires c κs = search needs
-
--- src/scan.rt:96:5
-store-row-requires-2 : tie.Need-store-row-requires-2
-store-row-requires-2 c κs = search needs
-
--- src/scan.rt:97:22
-add-t10 : tie.Need-add-t10
-add-t10 c = search needs
-
--- src/scan.rt:72:1
-same-length : tie.Need-same-length
-same-length c = search needs
-
--- src/scan.rt:72:1
 returns-5 : tie.Need-returns-5
-returns-5 c = ?
+returns-5 c =
+    let row = c .before .before in
+    let value = row .before .before in
+    let own = value .before .before .before .before in
+    let e = own .before .before in
+    let w = e .before .before .before in
+    let s = entry w in
+    sum-read (wordsIn w) (s .args .at) (s .pre .2) (w .before .if1 .left) (w .word .ensures .0) (e .before .before .if2 .left) (e .before .if3 .left) (fits w) (e .if4 .left)
+    (own .store-row .ensures) (value .word2 .ensures .0) (row .store-row2 .ensures ∙ rw (row .before .word-row .ensures))
 
 pub sum-region-spec : {M : Type 1} → statement M
 sum-region-spec =
     tie.close
     (tie.spec
-    refuse-requires
+    (λ c κs. search needs)
     returns
-    word-requires
-    sub-if2
-    cast-if2
-    refuse-requires-2
+    (λ c κs. search needs)
+    (λ c. search needs)
+    (λ c. search needs)
+    (λ c κs. search needs)
     returns-2
-    refuse-requires-3
+    (λ c κs. search needs)
     returns-3
-    sub-if4
-    add-refuse
-    refuse-requires-4
+    (λ c. search needs)
+    (λ c. search needs)
+    (λ c κs. search needs)
     returns-4
-    store-row-requires
-    add-store-row
-    add-word
-    word-requires-2
-    word-row-requires
-    store-row-requires-2
-    add-t10
-    same-length
+    (λ c κs. search needs)
+    (λ c. search needs)
+    (λ c. search needs)
+    (λ c κs. search needs)
+    (λ c κs. search needs)
+    (λ c κs. search needs)
+    (λ c. search needs)
+    (λ c. search needs)
     returns-5)
