@@ -4,3 +4,4 @@ pub mod ScalerWords
 pub mod RegionLaws
 pub mod SumRegion
 pub mod RegionLoop
+pub mod EventLaws
