@@ -11,14 +11,15 @@ use borrow.Author.Tests.{lt-leb, le-leb, eq-eqb, ne-eqb}
 use Rattle.event.specs.declared.Answer.{Answer}
 use Rattle.event.specs.declared.Answer.the-variants as answer
 use Rattle.event.specs.declared.Part.the-variants.{Done, Refused}
-use Rattle.event.specs.Parser.{Result, ok, refuse, Parser, then, _>>=_, _>>_, give, finish, lastly, alone, several, each}
-use Rattle.event.specs.Scanning.{storeRows, reading, Scanned, PartOf}
+use Rattle.event.specs.Parser.{Result, ok, refuse, Parser, then, _>>=_, _>>_, give, require, finish, lastly, alone, several, each}
+use Rattle.event.specs.Words.{between}
+use Rattle.event.specs.Scanning.{reading, Scanned, PartOf}
 use Rattle.event.proofs.Codes.{T-true}
 use Rattle.event.proofs.Elements.{is-between}
 use Rattle.event.proofs.Ends.{ends-many}
 use Rattle.event.proofs.Impossible.{impossible}
 use Rattle.event.proofs.Leads.{leads-part, scanned-refuse, refused-scan, accepted-scan}
-use Rattle.event.proofs.Turns.{lastly-holds, lastly-fails}
+use Rattle.event.proofs.Turns.{lastly-holds, lastly-fails, lastly-taken}
 use Rattle.rcnp_layout.specs.Event.{Region, Event}
 use Rattle.rcnp_layout.specs.Layout.{regionRows, sumRows, rows, total, summed}
 use Rattle.rcnp_layout.specs.Reading.{region, sumRegion, atSum, partsWith, eventParser}
@@ -88,3 +89,15 @@ module _ (ws : List ℕ) (least : 2 ≤ length ws) (most : length ws ≤ 4096) w
 
     pub event-read : sum % 65536 ≡ 0 → Scanned rows (eventParser (length ws) 0 ws) 0 b (answer.Accepted k) after
     event-read z = rw in-size (lastly-holds summed 13 (partsWith (finish 6)) 0 ws s (λ a j r p. read-sum ws a j r p .0 ∙ rw (← e, eq-eqb (sum % 65536) 0 z)))
+
+-- of an event that the check accepted the parts are the event
+pub filled-parts : (ws : List ℕ) {k : ℕ} {b after b′ after′ : List ℕ} {r : Answer} → Scanned rows (eventParser (length ws) 0 ws) 0 b (answer.Accepted k) after
+    → Scanned rows (parts ws) 0 b′ r after′ → Scanned rows (eventParser (length ws) 0 ws) 0 b′ r after′
+filled-parts ws {b′ = b′} {after′ = after′} {r = r} s t =
+    let a = accepted-scan rows (eventParser (length ws) 0 ws) s in
+    let e = lastly-taken summed 13 (partsWith (finish 6)) 0 ws (sized (between 2 4096 (length ws)) (a .value) (a .place) (a .input) (a .parsed)) in
+    subst (λ (x : Result ℕ Event). Scanned rows x 0 b′ r after′) (e ∙ sym (a .parsed)) t
+  where
+    sized : (b : Bool) (e : Event) (j : ℕ) (l : List ℕ) → (require b 1 0 >> lastly summed 13 (partsWith (finish 6))) 0 ws ≡ ok e j l → lastly summed 13 (partsWith (finish 6)) 0 ws ≡ ok e j l
+    sized true e j l p = p
+    sized false e j l p = impossible cc

@@ -39,7 +39,14 @@ module _ {ws b₀ : List ℕ} {i k : ℕ} {b : List ℕ} (h : RegionsTo ws b₀ 
 
   pub regions-done : true ≡ atSum (drop i ws) → PartOf (each regionRows) (several region atSum 0 ws) ws 0 b₀ b (Done i k)
   regions-done e = record {
-    part = record { value = h .list; parsed = all-taken (h .taken) (sym e); inside = h .inside; few = h .few; counted = h .counted ∙ sym (zero-add (length (each regionRows (h .list)))); stored = h .stored };
+    part = record {
+      value = h .list;
+      parsed = all-taken (h .taken) (sym e);
+      inside = h .inside;
+      few = h .few;
+      counted = h .counted ∙ sym (zero-add (length (each regionRows (h .list))));
+      stored = h .stored;
+    };
   }
 
   module _ (more : false ≡ atSum (drop i ws)) where

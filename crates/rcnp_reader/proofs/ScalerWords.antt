@@ -1,7 +1,7 @@
 -- Scalers, two words each. Over plain values.
 -- Assumes nothing.
 use Prim.Native.Nat.{ℕ, suc, _+_, _*_, _-_, _^_, _≤_, _<_}
-use native.Mathlib.Nat.{add-zero, zero-add}
+use native.Mathlib.Nat.{add-zero, zero-add, mul-one}
 use native.Mathlib.Numerals.{add-one}
 use native.Mathlib.Omega.{arith}
 use mathlib.Core.Path.{_≡_, refl, ap, sym, _∙_}
@@ -10,6 +10,7 @@ use lib.ListN.{length, getD, length-append}
 use lib.Seq.{slice, slice-empty}
 use borrow.Author.Tests.{eq-eqb, lt-ltb, le-ltb}
 use Rattle.event.specs.declared.Answer.the-variants.{Accepted, Refused}
+use Rattle.event.specs.declared.Row.{Row}
 use Rattle.event.specs.Parser.{ok, refuse, ended, alone, prints}
 use Rattle.event.specs.Rows.{storeRow}
 use Rattle.event.specs.Scanning.{storeRows, Scanned}
@@ -32,8 +33,15 @@ module _ (i v w : ℕ) (r : List ℕ) (low : v < 2 ^ 16) where
       let two : suc (suc i) ≡ i + 2 = omega arith in
       rw (eq-eqb v v refl, lt-ltb v (2 ^ 16) low, eq-eqb w w refl, lt-ltb w (2 ^ 8) h, two)
 
--- the rows of one scaler more
-row-more : (n : ℕ) (vs : List ℕ) (v : ℕ) → prints (λ index v. scalerRow index v ∷ []) nextIndex n (vs ++ (v ∷ [])) ≡ prints (λ index v. scalerRow index v ∷ []) nextIndex n vs ++ (scalerRow (n + length vs) v ∷ [])
+-- the rows of scalers from index n on
+abbrev rowsFrom : (n : ℕ) → List ℕ → List Row
+rowsFrom = prints (λ index v. scalerRow index v ∷ []) nextIndex
+
+as-many : (vs : List ℕ) → length (rowsFrom 0 vs) ≡ length vs
+as-many vs = prints-length (λ index v. scalerRow index v ∷ []) nextIndex 1 (λ index v. refl) 0 vs ∙ mul-one (length vs)
+
+-- one more
+row-more : (n : ℕ) (vs : List ℕ) (v : ℕ) → rowsFrom n (vs ++ (v ∷ [])) ≡ rowsFrom n vs ++ (scalerRow (n + length vs) v ∷ [])
 row-more n [] v = rw (add-zero n)
 row-more n (x ∷ vs) v =
     let e : suc n + length vs ≡ n + suc (length vs) = omega arith in
@@ -59,8 +67,7 @@ module _ {ws : List ℕ} {end first k : ℕ} {b₀ : List ℕ} where
     pub scalers-read : first + 2 * index ≡ end → Scanned (contentRows scaler) (content scaler first (slice first end ws)) k b₀ (Accepted (k + index)) b
     scalers-read e =
         let all = all-taken (h .taken) (rw (e, slice-empty end ws)) in
-        let n = prints-length (λ index v. scalerRow index v ∷ []) nextIndex 1 (λ i v. refl) 0 (h .values) in
-        let c : k + index ≡ k + length (contentRows scaler (h .values)) = omega (arith, n, h .size) in
+        let c : k + index ≡ k + length (contentRows scaler (h .values)) = omega (arith, as-many (h .values), h .size) in
         rw all (record { answered = ap Accepted c; stored = h .stored })
 
     module _ {v w : ℕ} (below : first + 2 * index + 1 < end) (long : end ≤ length ws) (p : v ≡ getD ws (first + 2 * index) 0) (low : v < 2 ^ 16)
@@ -72,17 +79,18 @@ module _ {ws : List ℕ} {end first k : ℕ} {b₀ : List ℕ} where
       two = at-two ws place end below long p q
 
       pub scaler-refused : (after : List ℕ) → 2 ^ 8 ≤ w → Scanned (contentRows scaler) (content scaler first (slice first end ws)) k b₀ (Refused 10 (place + 1)) after
-      scaler-refused after f = scanned-refuse (contentRows scaler) k b₀ after (item-refuses (h .taken) (λ u. codes-scaler) (λ u v g r. refl) refl (rw two) (rw two (scaler-high place v w (slice (place + 2) end ws) low f)))
+      scaler-refused after f =
+          let read : scalerValue place (slice place end ws) ≡ refuse 10 (place + 1) = rw two (scaler-high place v w (slice (place + 2) end ws) low f) in
+          scanned-refuse (contentRows scaler) k b₀ after (item-refuses (h .taken) (λ u. codes-scaler) (λ u v g r. refl) refl (rw two) read)
 
-      pub scaler-taken : {b′ : List ℕ} → w < 2 ^ 8 → b′ ≡ storeRow b (k + index) (scalerRow index (w * 2 ^ 16 + v)) → ScalersTo ws end first k b₀ (index + 1) b′
+      pub scaler-taken : {b′ : List ℕ} → w ≤ 255 → b′ ≡ storeRow b (k + index) (scalerRow index (w * 2 ^ 16 + v)) → ScalersTo ws end first k b₀ (index + 1) b′
       scaler-taken f s =
           let value = w * 2 ^ 16 + v in
           let next : place + 2 ≡ first + 2 * (index + 1) = omega arith in
-          let read : scalerValue place (slice place end ws) ≡ ok value (place + 2) (slice (place + 2) end ws) = rw two (scaler-whole place v w (slice (place + 2) end ws) low f) in
+          let read : scalerValue place (slice place end ws) ≡ ok value (place + 2) (slice (place + 2) end ws) = rw two (scaler-whole place v w (slice (place + 2) end ws) low (omega arith)) in
           let one = one-taken (h .taken) (λ u. codes-scaler) (λ u v g r. refl) refl (rw two) read in
           let rows = contentRows scaler (h .values) in
-          let n = prints-length (λ index v. scalerRow index v ∷ []) nextIndex 1 (λ i v. refl) 0 (h .values) in
-          let c : k + length rows ≡ k + index = omega (arith, n, h .size) in
+          let c : k + length rows ≡ k + index = omega (arith, as-many (h .values), h .size) in
           record {
             values = h .values ++ (value ∷ []);
             size = omega (arith, length-append (h .values) (value ∷ []), h .size);

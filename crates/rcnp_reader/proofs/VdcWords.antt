@@ -6,7 +6,7 @@ use native.Mathlib.Omega.{arith}
 use mathlib.Core.Path.{_≡_, refl, _∙_}
 use mathlib.Core.Bool.{Bool, true, false, cond, _&&_}
 use mathlib.Core.List.{List, [], _∷_, _++_, map, map-append}
-use lib.Dec.{eqb, ltb}
+use lib.Dec.{eqb, ltb, leb}
 use lib.ListN.{length, getD}
 use lib.Seq.{slice, slice-empty}
 use borrow.Author.Tests.{eq-eqb, ne-eqb, lt-ltb, ltb-true, ltb-false, le-leb, lt-leb}
@@ -16,7 +16,7 @@ use Rattle.event.proofs.Items.{TakenTo, none-taken, all-taken, item-refuses, on
 use Rattle.event.proofs.RowStores.{slice-more}
 use Rattle.event.proofs.Turns.{at-word}
 use Rattle.rcnp_layout.specs.Event.{VdcWord, head, datum, vdc}
-use Rattle.rcnp_layout.specs.Layout.{vdcWord, vdcFits, begins}
+use Rattle.rcnp_layout.specs.Layout.{vdcWord, vdcFits, vdcRow, begins}
 use Rattle.rcnp_layout.specs.Reading.{vdcOf, vdcValue, content}
 use Rattle.rcnp_layout.proofs.Words.{codes-vdc}
 use Rattle.rcnp_reader.specs.Regions.{vdcGood, vdcWordRow}
@@ -29,6 +29,16 @@ vdc-judged begun i w r = go (eqb w (vdcWord (vdcOf w))) (vdcFits begun (vdcOf w)
     go true true = refl
     go true false = refl
     go false b = refl
+
+-- its row, field by field
+pub picked-row : (w : ℕ) {h : Bool} {k u c d : ℕ} → h ≡ leb (2 ^ 15) w → k ≡ cond h 35 36 → u ≡ cond h (w % 2 ^ 8) 0 → c ≡ cond h (w / 2 ^ 11 % 2 ^ 3) (w / 2 ^ 10)
+    → d ≡ cond h (w / 2 ^ 8 % 2 ^ 3) (w % 2 ^ 10) → row k u c d ≡ vdcWordRow w
+picked-row w e k u c d = rw (k, u, c, d, e) (go (leb (2 ^ 15) w))
+  where
+    go : (b : Bool) → row (cond b 35 36) (cond b (w % 2 ^ 8) 0) (cond b (w / 2 ^ 11 % 2 ^ 3) (w / 2 ^ 10)) (cond b (w / 2 ^ 8 % 2 ^ 3) (w % 2 ^ 10))
+        ≡ vdcRow (cond b (head (w % 2 ^ 8) (w / 2 ^ 11 % 2 ^ 3) (w / 2 ^ 8 % 2 ^ 3)) (datum (w / 2 ^ 10) (w % 2 ^ 10)))
+    go true = refl
+    go false = refl
 
 -- bit 15 clear: a datum
 module _ (w : ℕ) (low : w < 2 ^ 15) where
@@ -44,16 +54,10 @@ module _ (w : ℕ) (low : w < 2 ^ 15) where
       go true = refl
       go false = refl
 
-  pub datum-row : vdcWordRow w ≡ row 36 0 (w / 2 ^ 10) (w % 2 ^ 10)
-  datum-row = rw datum-of
-
 -- bit 15 set: a module's header, with bit 14 clear
 module _ (w : ℕ) (high : 2 ^ 15 ≤ w) where
   head-of : vdcOf w ≡ head (w % 2 ^ 8) (w / 2 ^ 11 % 2 ^ 3) (w / 2 ^ 8 % 2 ^ 3)
   head-of = rw (le-leb (2 ^ 15) w high)
-
-  pub head-row : vdcWordRow w ≡ row 35 (w % 2 ^ 8) (w / 2 ^ 11 % 2 ^ 3) (w / 2 ^ 8 % 2 ^ 3)
-  head-row = rw head-of
 
   abbrev printed : ℕ
   printed = 2 ^ 15 + w / 2 ^ 11 % 2 ^ 3 * 2 ^ 11 + w / 2 ^ 8 % 2 ^ 3 * 2 ^ 8 + w % 2 ^ 8

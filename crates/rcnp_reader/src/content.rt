@@ -8,6 +8,7 @@ use event::rows::fitting;
 use event::rows::store_row;
 ghost use Prim.Native.Nat.{_-_, _/_, _%_, _≤_, _<_};
 ghost use mathlib.Core.Path.{_≡_};
+ghost use mathlib.Core.Bool.{cond};
 ghost use mathlib.Core.List.{map};
 ghost use lib.ListN.{length};
 ghost use lib.Seq.{slice};
@@ -69,24 +70,24 @@ pub(crate) fn word_row(w: u32) -> Row
     }
 }
 
-// A module's header: module in bits 7-0, bits 13-11, bits 10-8. A datum: channel in bits 14-10, time in bits 9-0.
+// A module's header: module in bits 7-0, bits 13-11, bits 10-8. A datum: channel in bits 14-10, time in bits 9-0. (Each field is chosen, so that the loop over
+// the words has no branch by their kind.)
 fn vdc_row(w: u32) -> Row
     ensures { λ r. ⌜ r ≡ vdcWordRow w ⌝ }
 {
-    if 0x8000 <= w {
-        return Row {
-            kind: kind::VDC_MODULE,
-            unit: w % 256,
-            channel: w / 2048 % 8,
-            datum: w / 256 % 8,
-        };
-    }
+    let head = 0x8000 <= w;
     Row {
-        kind: kind::VDC_DATUM,
-        unit: 0,
-        channel: w / 1024,
-        datum: w % 1024,
+        kind: pick(head, kind::VDC_MODULE, kind::VDC_DATUM),
+        unit: pick(head, w % 256, 0),
+        channel: pick(head, w / 2048 % 8, w / 1024),
+        datum: pick(head, w / 256 % 8, w % 1024),
     }
+}
+
+fn pick(first: bool, a: u32, b: u32) -> u32
+    ensures { λ r. ⌜ r ≡ cond first a b ⌝ }
+{
+    if first { a } else { b }
 }
 
 // Scalers, two words each: low 16 bits, then the upper 8 bits with zero above.

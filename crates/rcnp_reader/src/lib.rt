@@ -4,6 +4,7 @@ mod region;
 mod scan;
 mod word;
 
+use crate::scan::parts;
 use crate::scan::scan;
 use event::Answer;
 use event::refusal;
@@ -23,7 +24,7 @@ enum Opened {
     Refused { number: u32, place: usize },
 }
 
-// Reads one event into rows, four elements each. A refused reading leaves every element as it was.
+// Reads one event into rows, four elements each. A refused reading leaves every element as it was. The filling need not sum again.
 pub fn read(words: &[u16], rows: &mut [u32]) -> Answer
     ensures answer { λ r. ⌜ r ≡ answerOf (inRoom (room (length (now (rows .entry)))) (reading (now (words .entry)))) ⌝ }
     ensures buffer { λ _. ⌜ now (rows .exit) ≡ overlaid (flat (given (inRoom (room (length (now (rows .entry)))) (reading (now (words .entry)))))) (now (rows .entry)) ⌝ }
@@ -39,5 +40,5 @@ pub fn read(words: &[u16], rows: &mut [u32]) -> Answer
             place: count,
         };
     }
-    scan(words, rows)
+    parts(words, rows)
 }

@@ -1,4 +1,4 @@
-// One scan serves the check and the filling: it stores a row only where the buffer has room for it.
+// One scan of the parts serves the check and the filling: it stores a row only where the buffer has room for it.
 use crate::Opened;
 use crate::content::store_chamber;
 use crate::content::word_row;
@@ -104,7 +104,7 @@ fn refuse(number: u32, place: usize) -> Answer
 }
 
 // Every rule but the number of words and the sum.
-fn parts(words: &[u16], rows: &mut [u32]) -> Answer
+pub(crate) fn parts(words: &[u16], rows: &mut [u32]) -> Answer
     ensures { λ r. ⌜ Scanned rowsOf (partsWith (finish 6) 0 (now (words .entry))) 0 (now (rows .entry)) r (now (rows .exit)) ⌝ }
 {
     let before = regions(words, rows);

@@ -9,6 +9,7 @@ use Rattle.event.proofs.Stores.{read-refused, read-crowded, read-fits}
 use Rattle.rcnp_layout.specs.Layout.{rows}
 use Rattle.rcnp_layout.specs.Reading.{eventParser}
 use borrow.Author.Needs.{needs}
+use Rattle.rcnp_reader.proofs.EventLaws.{filled-parts}
 use Rattle.rcnp_reader.proofs.read.Statement.{statement}
 use Rattle.rcnp_reader.proofs.read.Tie as tie
 
@@ -50,7 +51,9 @@ returns-3 c =
     let f = c .before .before in
     let e = f .before .before in
     let a = accepted (e .before) in
-    let r = read-fits rows (rowsIn (check a)) _ (checked (check a) (a .checked .given .1)) (e .if1 .left) (f .scan2 .ensures) in
+    let s = check a in
+    let ok = checked s (a .checked .given .1) in
+    let r = read-fits rows (rowsIn s) _ ok (e .if1 .left) (filled-parts (wordsIn s) ok (f .parts .ensures)) in
     (r .answered, r .written)
 
 pub read-spec : {M : Type 1} → statement M

@@ -57,7 +57,7 @@ loop-again c =
     let w = s .before .before in
     let e = w .before in
     let t = e .before .before in
-    (search needs, scaler-taken (head t .loop .inv .1) (below t) (inside t) (w .word2 .ensures .0) (w .word2 .ensures .1) (e .before .word .ensures .0) (omega (arith, e .if1 .left)) (s .store-row .ensures))
+    (search needs, scaler-taken (head t .loop .inv .1) (below t) (inside t) (w .word2 .ensures .0) (w .word2 .ensures .1) (e .before .word .ensures .0) (e .if1 .left) (s .store-row .ensures))
 
 returns-2 : tie.Need-returns-2 Inv-loop μ-loop
 returns-2 c =
