@@ -12,7 +12,6 @@ use event::Part;
 use event::Row;
 use event::kind;
 use event::refusal;
-use event::refuse_part;
 use event::rows::store_row;
 ghost use Prim.Native.Nat.{_≤_};
 ghost use mathlib.Core.Bool.{true};
@@ -68,7 +67,7 @@ fn regions(words: &[u16], rows: &mut [u32]) -> Part
     }
 }
 
-// The check sum region, which begins at `at` unless the words end there: 6, 5, 7, its two rows, and 6 at a word after it.
+// The check sum region, which begins at `at` unless the words end there: 6, 5, 7, 6 at a word after it; then its two rows.
 fn sum_region(words: &[u16], at: usize, rows: &mut [u32], count: usize) -> Answer
     requires { ⌜ (at ≤ length (now words)) × (count ≤ at) × (atSum (drop at (now words)) ≡ true) ⌝ }
     ensures { λ r. ⌜ Scanned sumRows (lastParts at (drop at (now (words .entry)))) count (now (rows .entry)) r (now (rows .exit)) ⌝ }

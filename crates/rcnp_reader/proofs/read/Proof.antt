@@ -24,8 +24,12 @@ module _ (s : tie.After-scan) where
   abbrev rowsIn : List ℕ
   rowsIn = entry .args .rows .now
 
-  checked : {r : Answer} → s .scan .result ≡ r → Scanned rows (eventParser (length wordsIn) 0 wordsIn) 0 [] r (s .scan .last .1 .0)
-  checked e = subst (λ (r : Answer). Scanned rows (eventParser (length wordsIn) 0 wordsIn) 0 [] r (s .scan .last .1 .0)) e (s .scan .ensures)
+  -- the buffer that the check is given
+  abbrev noRows : List ℕ
+  noRows = []
+
+  checked : {r : Answer} → s .scan .result ≡ r → Scanned rows (eventParser (length wordsIn) 0 wordsIn) 0 noRows r (s .scan .last .1 .0)
+  checked e = subst (λ (r : Answer). Scanned rows (eventParser (length wordsIn) 0 wordsIn) 0 noRows r (s .scan .last .1 .0)) e (s .scan .ensures)
 
 returns : tie.Need-returns
 returns c =
