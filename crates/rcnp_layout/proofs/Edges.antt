@@ -3,7 +3,6 @@
 use Prim.Native.Nat.{ℕ}
 use mathlib.Core.Path.{refl}
 use mathlib.Core.List.{List, [], _∷_, _++_, map}
-use lib.ListN.{replicate}
 use Rattle.event.specs.declared.Row.{Row}
 use Rattle.event.specs.Outcome.{done, refused}
 use Rattle.event.specs.Rows.{row}
@@ -11,22 +10,20 @@ use Rattle.event.proofs.Vectors.{Vector, vector, AsExpected}
 use Rattle.rcnp_layout.specs.Reading.{reading}
 
 -- these words are refused
-abbrev bare : List ℕ → (number place : ℕ) → Vector Row
+abbrev pub bare : List ℕ → (number place : ℕ) → Vector Row
 bare ws n k = vector ws (refused n k)
 
 -- these words and a check sum region with this word have these rows and the region's two, or are refused
-abbrev ok : List ℕ → (sum : ℕ) → List Row → Vector Row
+abbrev pub ok : List ℕ → (sum : ℕ) → List Row → Vector Row
 ok ws w rows = vector (ws ++ (0xf001 ∷ w ∷ [])) (done (rows ++ (row 32 15 1 0 ∷ row 33 0 0 w ∷ [])))
 
-abbrev no : List ℕ → (sum number place : ℕ) → Vector Row
+abbrev pub no : List ℕ → (sum number place : ℕ) → Vector Row
 no ws w n k = bare (ws ++ (0xf001 ∷ w ∷ [])) n k
 
--- 1: 2 to 4,096 words, before all else. (0x3ffd + 4,093 × 1 + 0xf001 + 0xc005 = 0x20000.)
+-- 1: 2 to 4,096 words, before all else. (The largest events: crate rcnp_sizes.)
 abbrev events : List (Vector Row)
 events =
-    vector [] (refused 1 0) ∷ bare (0xf001 ∷ []) 1 0 ∷ bare (0 ∷ []) 1 0 ∷ ok [] 0x0fff []
-    ∷ ok (0x3ffd ∷ replicate 4093 1) 0xc005 (row 32 3 4093 0 ∷ replicate 4093 (row 33 0 0 1))
-    ∷ no (0x3ffe ∷ replicate 4094 1) 0xc003 1 0 ∷ bare (replicate 4097 0) 1 0 ∷ []
+    vector [] (refused 1 0) ∷ bare (0xf001 ∷ []) 1 0 ∷ bare (0 ∷ []) 1 0 ∷ ok [] 0x0fff [] ∷ []
 
 -- 6 at a header: ids 0, 1, 5, 8 and 9, before 5 and 7; a word after region 15, be it another region 15; the word count where none came
 abbrev ids : List (Vector Row)

@@ -3,7 +3,6 @@
 use Prim.Native.Nat.{ℕ}
 use mathlib.Core.Path.{refl}
 use mathlib.Core.List.{List, [], _∷_, _++_, map}
-use lib.ListN.{replicate}
 use Rattle.event.specs.declared.Row.{Row}
 use Rattle.event.specs.Outcome.{done, refused}
 use Rattle.event.specs.Rows.{row, flat}
@@ -11,11 +10,11 @@ use Rattle.event.proofs.Vectors.{Vector, vector, AsExpected}
 use Rattle.rcnp_layout.specs.Writing.{writing}
 
 -- these rows and those of a check sum region with this word have these words and the region's two
-abbrev ok : List Row → (sum : ℕ) → List ℕ → Vector ℕ
+abbrev pub ok : List Row → (sum : ℕ) → List ℕ → Vector ℕ
 ok rows w ws = vector (flat (rows ++ (row 32 15 1 0 ∷ row 33 0 0 w ∷ []))) (done (ws ++ (0xf001 ∷ w ∷ [])))
 
 -- these rows are refused
-abbrev no : List Row → (number place : ℕ) → Vector ℕ
+abbrev pub no : List Row → (number place : ℕ) → Vector ℕ
 no rows n k = vector (flat rows) (refused n k)
 
 -- 20, before all else. Rows that end too early: 21 at the row count.
@@ -59,18 +58,13 @@ fields =
     ++ map (λ r. no (row 32 6 4 0 ∷ row 34 0 0 7 ∷ r ∷ []) 22 2) (row 34 0 1 0x01000000 ∷ row 34 0 0 7 ∷ row 34 0 2 7 ∷ row 34 1 1 7 ∷ [])
     ++ map (λ r. no (row 32 7 2 0 ∷ row 35 0 0 0 ∷ r ∷ []) 22 2) (row 35 256 0 0 ∷ row 35 0 8 0 ∷ row 35 0 0 8 ∷ row 36 1 0 0 ∷ row 36 0 32 0 ∷ row 36 0 0 1024 ∷ [])
 
--- the sum's word: 22 at its own row out of its range; wrong, after all rows, so that a row more is 21 there. 23 after it. (0x3ffe + 4,094 × 1 + 0xf001 + 0xc003 = 0x20000.)
+-- the sum's word: 22 at its own row out of its range; wrong, after all rows, so that a row more is 21 there. (23 comes after it: crate rcnp_sizes.)
 abbrev sums : List (Vector ℕ)
 sums =
-    no (row 32 15 1 0 ∷ row 33 0 0 0x0ffe ∷ []) 22 1 ∷ no (row 32 15 1 0 ∷ row 33 0 0 0 ∷ []) 22 1 ∷ no (row 32 15 1 0 ∷ row 33 0 0 0x00010fff ∷ []) 22 1 ∷ no (row 32 3 0 0
-    ∷ row 32 15 1 0 ∷ row 33 0 0 0x0fff ∷ []) 22 2
-    ∷ no (row 32 15 1 0 ∷ row 33 1 0 0x0fff ∷ []) 22 1 ∷ no (row 32 15 1 0 ∷ row 36 0 0 0x0fff ∷ []) 21 1
-    ∷ no (row 32 15 1 0 ∷ row 33 0 0 0x0fff ∷ row 33 0 0 0 ∷ []) 21 2 ∷ no (row 32 15 1 0 ∷ row 33 0 0 0 ∷ row 32 3 0 0 ∷ []) 21 2 ∷ no (row 32 15 1 0 ∷ row 33 0 0 0x0fff
-    ∷ row 32 15 1 0 ∷ row 33 0 0 0x0fff ∷ []) 21 2
-    ∷ no (row 32 15 1 0 ∷ row 33 0 0 65536 ∷ row 0 0 0 0 ∷ []) 22 1
-    ∷ ok (row 32 3 4093 0 ∷ replicate 4093 (row 33 0 0 1)) 0xc005 (0x3ffd ∷ replicate 4093 1)
-    ∷ no (row 32 3 4094 0 ∷ (replicate 4094 (row 33 0 0 1) ++ (row 32 15 1 0 ∷ row 33 0 0 0xc003 ∷ []))) 23 4097
-    ∷ no (row 32 3 4094 0 ∷ (replicate 4094 (row 33 0 0 1) ++ (row 32 15 1 0 ∷ row 33 0 0 0xc004 ∷ []))) 22 4096 ∷ []
+    no (row 32 15 1 0 ∷ row 33 0 0 0x0ffe ∷ []) 22 1 ∷ no (row 32 15 1 0 ∷ row 33 0 0 0 ∷ []) 22 1 ∷ no (row 32 15 1 0 ∷ row 33 0 0 0x00010fff ∷ []) 22 1
+    ∷ no (row 32 3 0 0 ∷ row 32 15 1 0 ∷ row 33 0 0 0x0fff ∷ []) 22 2 ∷ no (row 32 15 1 0 ∷ row 33 1 0 0x0fff ∷ []) 22 1 ∷ no (row 32 15 1 0 ∷ row 36 0 0 0x0fff ∷ []) 21 1
+    ∷ no (row 32 15 1 0 ∷ row 33 0 0 0x0fff ∷ row 33 0 0 0 ∷ []) 21 2 ∷ no (row 32 15 1 0 ∷ row 33 0 0 0 ∷ row 32 3 0 0 ∷ []) 21 2
+    ∷ no (row 32 15 1 0 ∷ row 33 0 0 0x0fff ∷ row 32 15 1 0 ∷ row 33 0 0 0x0fff ∷ []) 21 2 ∷ no (row 32 15 1 0 ∷ row 33 0 0 65536 ∷ row 0 0 0 0 ∷ []) 22 1 ∷ []
 
 pub edges : AsExpected writing (ends ++ headers ++ counts ++ fields ++ sums)
 edges = refl
