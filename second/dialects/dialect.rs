@@ -45,7 +45,7 @@ pub struct Rows {
 }
 
 /// What sets right again, after a change of words or of row elements, the numbers that the whole
-/// event fixes: a sum, a count of words. Else their refusal would hide all that it comes before.
+/// event fixes: a sum, a count of words. Without it a damaged event would hardly ever be accepted.
 pub struct Mend {
     pub words: fn(&mut [u32]),
     pub rows: fn(&mut [u32]),

@@ -8,32 +8,8 @@ use crate::vectors::MOST_ELEMENTS;
 
 /// Numbers just inside and just outside the range of some field.
 pub const ANY_LIMITS: [u32; 26] = [
-    0,
-    1,
-    2,
-    3,
-    4,
-    5,
-    6,
-    7,
-    8,
-    9,
-    14,
-    15,
-    16,
-    31,
-    32,
-    0xff,
-    0x100,
-    0x3ff,
-    0x400,
-    0xfff,
-    0x1000,
-    0xffff,
-    0x1_0000,
-    0xff_ffff,
-    0x100_0000,
-    0xffff_ffff,
+    0, 1, 2, 3, 4, 5, 6, 7, 8, 9, 14, 15, 16, 31, 32, 0xff, 0x100, 0x3ff, 0x400, 0xfff, 0x1000,
+    0xffff, 0x1_0000, 0xff_ffff, 0x100_0000, 0xffffffff,
 ];
 
 /// Values at the limits of a field (1 unit, 2 channel, 3 datum) of a row.

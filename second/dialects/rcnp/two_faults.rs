@@ -7,10 +7,21 @@ use super::layout::{
 use super::make::region;
 use crate::base::{Refusal, Row};
 
+/// A refusal number, its place, and what it is given for.
+type Fault<T> = (u32, u32, Vec<T>);
+
+fn named<T>(faults: Vec<Fault<T>>) -> Vec<(Refusal, Vec<T>)> {
+    let name = |(number, place, given)| (Refusal { number, place }, given);
+    faults.into_iter().map(name).collect()
+}
+
 pub fn events() -> Vec<(Refusal, Vec<u16>)> {
+    named([at_headers(), at_words()].concat())
+}
+
+/// The first fault is the number of words, or at a header or where one is missing.
+fn at_headers() -> Vec<Fault<u16>> {
     let after_sum = |words: &[u16]| [&smallest(), words].concat();
-    let scalers = |words: &[u16]| region(SCALER, words);
-    let modules = |words: &[u16]| region(DRIFT_CHAMBER, words);
     let mut events = vec![
         // Too few words, and no good header.
         (1, 0, vec![0x0fff]),
@@ -30,24 +41,31 @@ pub fn events() -> Vec<(Refusal, Vec<u16>)> {
         (5, 0, vec![header(CHECK_SUM, 2), 0]),
         (5, 2, with(&[region(INPUT_REGISTER, &[7])])[..3].to_vec()),
         // A size that the id does not allow, and a word that breaks its layout, or a wrong sum.
-        (7, 0, with(&[scalers(&[0, 0xffff, 0])])),
-        (7, 0, with(&[region(INPUT_REGISTER, &[]), modules(&[0])])),
+        (7, 0, with(&[region(SCALER, &[0, 0xffff, 0])])),
+        (7, 0, with(&[region(INPUT_REGISTER, &[]), region(DRIFT_CHAMBER, &[0])])),
         (7, 0, vec![header(CHECK_SUM, 0), 0]),
         (7, 0, vec![header(CHECK_SUM, 2), 0, 0]),
-        // Two words that break their layouts: the first of them.
+    ];
+    // A refused id, and no room.
+    events.extend(REFUSED.map(|id| (6, 0, vec![header(id, 2), 0])));
+    events
+}
+
+/// The first fault is at a word that breaks its layout.
+fn at_words() -> Vec<Fault<u16>> {
+    let scalers = |words: &[u16]| region(SCALER, words);
+    let modules = |words: &[u16]| region(DRIFT_CHAMBER, words);
+    vec![
+        // Two such words.
         (10, 2, with(&[scalers(&[0, 0x100, 0, 0x100])])),
         (10, 1, with(&[modules(&[0, 0xc000])])),
         (10, 2, with(&[modules(&[0x8000, 0xc000, 0xffff])])),
-        // Such a word, and a header behind it that is refused, or a wrong sum.
+        // A header behind it that is refused, no region 15, or a wrong sum.
         (10, 2, with(&[scalers(&[0, 0x100]), region(REFUSED[0], &[])])),
         (10, 1, [modules(&[0xc000]), vec![0x3fff]].concat()),
         (10, 1, modules(&[0x7fff])),
         (10, 2, [scalers(&[0, 0x8000]), vec![SUM_HEADER, 0]].concat()),
-    ];
-    // A refused id, and no room.
-    events.extend(REFUSED.map(|id| (6, 0, vec![header(id, 2), 0])));
-    let named = |(number, place, words)| (Refusal { number, place }, words);
-    events.into_iter().map(named).collect()
+    ]
 }
 
 fn head(id: u32, size: u32) -> Row {
@@ -63,13 +81,11 @@ const SUM: u32 = 0x0fff;
 
 /// Row lists with the refusal of their writing, many of them for a single fault.
 pub fn writings() -> Vec<(Refusal, Vec<Row>)> {
-    let mut lists = ends();
-    lists.extend(regions());
-    lists.into_iter().map(|(number, place, rows)| (Refusal { number, place }, rows)).collect()
+    named([ends(), regions()].concat())
 }
 
 /// About region 15 and what stands behind it.
-fn ends() -> Vec<(u32, u32, Vec<Row>)> {
+fn ends() -> Vec<Fault<Row>> {
     let last = head(CHECK_SUM, 1);
     vec![
         (21, 0, vec![]),
@@ -87,7 +103,7 @@ fn ends() -> Vec<(u32, u32, Vec<Row>)> {
 }
 
 /// About the rows of regions before it.
-fn regions() -> Vec<(u32, u32, Vec<Row>)> {
+fn regions() -> Vec<Fault<Row>> {
     let scaler = |index, value| [kind::SCALER, 0, index, value];
     let (module, time) = ([kind::MODULE, 1, 0, 0], [kind::TIME, 0, 0, 0]);
     let mut lists = vec![
