@@ -7,7 +7,7 @@ use lib.ListN.{replicate}
 use Rattle.event.specs.declared.Answer.the-variants.{Refused}
 use Rattle.event.specs.declared.Row.{Row}
 use Rattle.event.specs.Rows.{row}
-use Rattle.event.proofs.Vectors.{Vector, AsExpected, writeInto, RoomCase, case}
+use Rattle.event.proofs.Vectors.{Vector, AsExpected, risingRows, writeInto, RoomCase, case}
 use Rattle.rcnp_layout.specs.Writing.{writing}
 use Rattle.rcnp_layout.proofs.EdgesOfWriting.{ok, no}
 
@@ -23,6 +23,9 @@ abbrev pub vectors : List (Vector ℕ)
 vectors =
     ok (row 32 3 4093 0 ∷ replicate 4093 (row 33 0 0 1)) 0xc005 (0x3ffd ∷ replicate 4093 1)
     ∷ tooLarge ∷ no (large 0xc004) 22 4096
+    -- words are counted, and not rows
+    ∷ no (row 32 6 4094 0 ∷ (risingRows 34 0 0 0 2047 ++ (row 32 15 1 0 ∷ row 33 0 0 0xac00 ∷ []))) 23 4097
+    ∷ no (row 32 6 4094 0 ∷ (risingRows 34 0 0 0 2047 ++ (row 32 15 1 0 ∷ row 33 0 0 0xac01 ∷ []))) 22 2049
     ∷ no (row 32 3 4095 0 ∷ (replicate 4095 (row 33 0 0 1) ++ (row 32 15 1 0 ∷ row 33 0 0 0xc001 ∷ []))) 23 4098
     ∷ no (row 32 3 4096 0 ∷ (replicate 4096 (row 33 0 0 1) ++ (row 32 15 1 0 ∷ row 33 0 0 0xbfff ∷ []))) 22 0 ∷ []
 
