@@ -26,4 +26,5 @@ pub mod RowFaults
 pub mod RowJudged
 pub mod WritingTurns
 pub mod PartTurns
+pub mod CountedRows
 pub mod Vectors

@@ -1,13 +1,15 @@
 -- The refusal that the tests of a row find: 21 where it may not stand there, 22 where another of its rules fails, 0 for none.
 -- Assumes nothing.
-use Prim.Native.Nat.{ℕ}
+use Prim.Native.Nat.{ℕ, _<_}
 use mathlib.Core.Path.{_≡_, refl, sym}
 use mathlib.Core.Bool.{Bool, true, false, cond, not}
 use mathlib.Core.List.{List, [], _∷_}
-use lib.Dec.{T, eqb}
+use lib.Dec.{T, eqb, ltb→lt, lt→ltb}
 use borrow.Author.Tests.{eq-eqb, ne-eqb, eqb-true, eqb-false}
 use Rattle.event.specs.declared.Row.{Row}
 use Rattle.event.specs.Parser.{Test, test, Passed, faultIn}
+use Rattle.event.specs.Rows.{row}
+use Rattle.event.specs.Words.{belowChecks}
 use Rattle.event.specs.Writing.{sameRow, rowTests, ofKind}
 use Rattle.event.proofs.RowCodes.{SameFields, same-fields, fields-same}
 
@@ -68,6 +70,12 @@ module _ {A : Type 0} (k : ℕ) (fields : Row → A) (print : A → Row) (checks
     right = λ e h. rw (eq-eqb k (r .kind) (sym e), fields-same r (print (fields r)) (from e h .0)) (none-fails (checks (fields r)) (from e h .1));
     kept = λ e. let p = all-hold (rowTests (ofKind k) fields print checks r) (tt, (tt, numbered (checks (fields r)) n)) e in to (same-fields r (print (fields r)) (p .1 .0), p .1 .1);
   }
+
+-- of a row of which only the datum is free, below a bound
+pub datum-judged : (k unit channel bound : ℕ) (r : Row)
+    → Judged (faultIn (rowTests (ofKind k) (λ r. r .datum) (row k unit channel) (belowChecks 22 bound) r)) (r .kind) k ((r .unit ≡ unit) × (r .channel ≡ channel) × (r .datum < bound))
+datum-judged k unit channel bound r = judged k (λ r. r .datum) (row k unit channel) (belowChecks 22 bound) r (refl, tt)
+    (λ p. (p .0 .1, p .0 .2, ltb→lt (r .datum) bound (p .1 .0))) (λ e h. ((e, h .0, h .1, refl), (lt→ltb (r .datum) bound (h .2), tt)))
 
 -- that number, where b says that the other rules hold
 pub by-test : {number kind k : ℕ} {Keeps : Type 0} → Judged number kind k Keeps → (b : Bool) → (T b → Keeps) → (Keeps → T b) → number ≡ cond (eqb k kind) (cond b 0 22) 21

@@ -18,7 +18,7 @@ use Rattle.event.specs.Writing.{rowTests, ofKind, atKind, rowsIn, rowAt}
 use Rattle.event.proofs.Codes.{T-true, true-T}
 use Rattle.event.proofs.Elements.{both}
 use Rattle.event.proofs.RowCodes.{SameFields}
-use Rattle.event.proofs.RowFaults.{OfField, judged, by-test}
+use Rattle.event.proofs.RowFaults.{OfField, judged, datum-judged, by-test}
 use Rattle.event.proofs.RowsIn.{rows-count}
 use Rattle.event.proofs.RowJudged.{rows-from, rows-over}
 use Rattle.s800_layout.specs.Layout.{sampleRow, anodeRow, registerRow, stampRow, numberRow, sampleChecks, anodeChecks, registerChecks, stampChecks, numberChecks}
@@ -105,10 +105,8 @@ number-fault r = by-limits 3 0 65535 0xffffffff numberOf numberRow (numberChecks
 -- the time of a pair
 pub time-fault : (channel : ℕ) (r : Row) → faultIn (rowTests (ofKind 5) (λ r. r .datum) (row 5 0 channel) (belowChecks 22 (2 ^ 12)) r) ≡ timeFault channel r
 unfolding timeFault
-time-fault channel r =
-    by-test (judged 5 (λ r. r .datum) (row 5 0 channel) (belowChecks 22 (2 ^ 12)) r {Keeps = (r .unit ≡ 0) × (r .channel ≡ channel) × T (ltb (r .datum) 4096)} (refl, tt)
-    (λ p. (p .0 .1, p .0 .2, p .1 .0)) (λ e h. ((e, h .0, h .1, refl), (h .2, tt)))) ((eqb (r .unit) 0 && eqb (r .channel) channel) && ltb (r .datum) 4096)
+time-fault channel r = by-test (datum-judged 5 0 channel (2 ^ 12) r) ((eqb (r .unit) 0 && eqb (r .channel) channel) && ltb (r .datum) 4096)
     (λ t.
     let x = each-of (eqb (r .unit) 0) (eqb (r .channel) channel) (ltb (r .datum) 4096) t in
-    (eqb→eq (r .unit) 0 (x .0), eqb→eq (r .channel) channel (x .1), x .2))
-    (λ y. three (eqb (r .unit) 0) (eqb (r .channel) channel) (ltb (r .datum) 4096) (rw (eq-eqb (r .unit) 0 (y .0)) tt) (rw (eq-eqb (r .channel) channel (y .1)) tt) (y .2))
+    (eqb→eq (r .unit) 0 (x .0), eqb→eq (r .channel) channel (x .1), ltb→lt (r .datum) 4096 (x .2)))
+    (λ y. three (eqb (r .unit) 0) (eqb (r .channel) channel) (ltb (r .datum) 4096) (rw (eq-eqb (r .unit) 0 (y .0)) tt) (rw (eq-eqb (r .channel) channel (y .1)) tt) (lt→ltb (r .datum) 4096 (y .2)))
