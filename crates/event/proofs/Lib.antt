@@ -28,3 +28,4 @@ pub mod WritingTurns
 pub mod PartTurns
 pub mod CountedRows
 pub mod Vectors
+pub mod Tables

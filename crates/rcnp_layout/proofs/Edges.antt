@@ -40,7 +40,8 @@ ids =
 -- 5 at the header: fewer words than its size, before 7
 abbrev extents : List (Vector Row)
 extents =
-    bare (0x3002 ∷ 0 ∷ []) 5 0 ∷ bare (0x3003 ∷ 0xf001 ∷ 0x0fff ∷ []) 5 0 ∷ bare (0x3fff ∷ 0 ∷ []) 5 0 ∷ bare (0x2001 ∷ 0 ∷ 0x2001 ∷ []) 5 2 ∷ bare (0x2002 ∷ 0 ∷ []) 5 0
+    bare (0x3002 ∷ 0 ∷ []) 5 0 ∷ bare (0x3003 ∷ 0xf001 ∷ 0x0fff ∷ []) 5 0 ∷ bare (0x3fff ∷ 0 ∷ []) 5 0 ∷ bare (0x2001 ∷ 0 ∷ 0x2001 ∷ []) 5 2
+    ∷ bare (0x2002 ∷ 0 ∷ []) 5 0
     ∷ bare (0x6003 ∷ 0 ∷ 0 ∷ []) 5 0 ∷ bare (0x7002 ∷ 0 ∷ []) 5 0 ∷ bare (0xf002 ∷ 0 ∷ []) 5 0 ∷ bare (0x3000 ∷ 0xf001 ∷ []) 5 1 ∷ bare (0xffff ∷ 0 ∷ []) 5 0 ∷ []
 
 -- 7 at the header: id 2 has size 1, id 6 an even size, id 15 size 1; before 10
@@ -58,7 +59,8 @@ opaques =
     ok (0x2001 ∷ 0x1c3a ∷ []) 0xd3c4 (row 32 2 1 0 ∷ row 33 0 0 0x1c3a ∷ [])
     ∷ ok (0x2001 ∷ 0xffff ∷ 0x2001 ∷ 0 ∷ []) 0xcffe (row 32 2 1 0 ∷ row 33 0 0 0xffff ∷ row 32 2 1 0 ∷ row 33 0 0 0 ∷ [])
     ∷ ok (0x3001 ∷ 0xf001 ∷ []) 0xeffd (row 32 3 1 0 ∷ row 33 0 0 0xf001 ∷ [])
-    ∷ ok (0xd003 ∷ 0xb001 ∷ 0x0096 ∷ 0x0873 ∷ 0x4001 ∷ 0xffff ∷ []) 0x46f2 (row 32 13 3 0 ∷ row 33 0 0 0xb001 ∷ row 33 0 0 150 ∷ row 33 0 0 0x0873 ∷ row 32 4 1 0 ∷ row 33 0 0 0xffff ∷ []) ∷ []
+    ∷ ok (0xd003 ∷ 0xb001 ∷ 0x0096 ∷ 0x0873 ∷ 0x4001 ∷ 0xffff ∷ []) 0x46f2 (row 32 13 3 0 ∷ row 33 0 0 0xb001 ∷ row 33 0 0 150 ∷ row 33 0 0 0x0873 ∷ row 32 4 1 0
+    ∷ row 33 0 0 0xffff ∷ []) ∷ []
 
 -- id 6: low 16 bits, then the upper 8 bits with zero above (10)
 abbrev scalers : List (Vector Row)
@@ -66,16 +68,19 @@ scalers =
     ok (0x6004 ∷ 0 ∷ 0 ∷ 0xcc66 ∷ 8 ∷ []) 0xe38d (row 32 6 4 0 ∷ row 34 0 0 0 ∷ row 34 0 1 0x8cc66 ∷ [])
     ∷ ok (0x6002 ∷ 0xffff ∷ 0x00ff ∷ []) 0xaeff (row 32 6 2 0 ∷ row 34 0 0 0xffffff ∷ [])
     ∷ ok (0x6002 ∷ 1 ∷ 0 ∷ 0x6002 ∷ 0 ∷ 1 ∷ []) 0x4ff9 (row 32 6 2 0 ∷ row 34 0 0 1 ∷ row 32 6 2 0 ∷ row 34 0 0 0x10000 ∷ [])
-    ∷ no (0x6002 ∷ 0 ∷ 0x0100 ∷ []) 0xaefd 10 2 ∷ no (0x6002 ∷ 0 ∷ 0xffff ∷ []) 0xaffe 10 2 ∷ no (0x6004 ∷ 0 ∷ 0 ∷ 0 ∷ 0x8000 ∷ []) 0x2ffb 10 4 ∷ no (0x6004 ∷ 0 ∷ 0x0100 ∷ 0 ∷ 0x0100 ∷ []) 0xadfb 10 2 ∷ []
+    ∷ no (0x6002 ∷ 0 ∷ 0x0100 ∷ []) 0xaefd 10 2 ∷ no (0x6002 ∷ 0 ∷ 0xffff ∷ []) 0xaffe 10 2 ∷ no (0x6004 ∷ 0 ∷ 0 ∷ 0 ∷ 0x8000 ∷ []) 0x2ffb 10 4
+    ∷ no (0x6004 ∷ 0 ∷ 0x0100 ∷ 0 ∷ 0x0100 ∷ []) 0xadfb 10 2 ∷ []
 
 -- id 7: headers (bit 15 set, bit 14 zero) and data words (bit 15 clear), a header first: 10. The first rows are of document 003's listing.
 abbrev chambers : List (Vector Row)
 chambers =
-    ok (0x7005 ∷ 0x8961 ∷ 0x5d79 ∷ 0x61fa ∷ 0x659d ∷ 0x8900 ∷ []) 0x6889 (row 32 7 5 0 ∷ row 35 97 1 1 ∷ row 36 0 23 0x0179 ∷ row 36 0 24 0x01fa ∷ row 36 0 25 0x019d ∷ row 35 0 1 1 ∷ [])
+    ok (0x7005 ∷ 0x8961 ∷ 0x5d79 ∷ 0x61fa ∷ 0x659d ∷ 0x8900 ∷ []) 0x6889
+    (row 32 7 5 0 ∷ row 35 97 1 1 ∷ row 36 0 23 0x0179 ∷ row 36 0 24 0x01fa ∷ row 36 0 25 0x019d ∷ row 35 0 1 1 ∷ [])
     ∷ ok (0x7004 ∷ 0xbfff ∷ 0x7fff ∷ 0x8000 ∷ 0 ∷ []) 0xdffd (row 32 7 4 0 ∷ row 35 255 7 7 ∷ row 36 0 31 0x03ff ∷ row 35 0 0 0 ∷ row 36 0 0 0 ∷ [])
     ∷ ok (0x7002 ∷ 0x8800 ∷ 0x8100 ∷ []) 0x96fd (row 32 7 2 0 ∷ row 35 0 1 0 ∷ row 35 0 0 1 ∷ [])
     ∷ no (0x7001 ∷ 0 ∷ []) 0x9ffe 10 1 ∷ no (0x7001 ∷ 0x7fff ∷ []) 0x1fff 10 1 ∷ no (0x7002 ∷ 0x5d79 ∷ 0x8961 ∷ []) 0xb923 10 1
-    ∷ no (0x7001 ∷ 0xc000 ∷ []) 0xdffe 10 1 ∷ no (0x7001 ∷ 0xffff ∷ []) 0x9fff 10 1 ∷ no (0x7002 ∷ 0x8961 ∷ 0xc961 ∷ []) 0x4d3b 10 2 ∷ no (0x7003 ∷ 0x8961 ∷ 0x5d79 ∷ 0xffff ∷ []) 0xb923 10 3
+    ∷ no (0x7001 ∷ 0xc000 ∷ []) 0xdffe 10 1 ∷ no (0x7001 ∷ 0xffff ∷ []) 0x9fff 10 1 ∷ no (0x7002 ∷ 0x8961 ∷ 0xc961 ∷ []) 0x4d3b 10 2
+    ∷ no (0x7003 ∷ 0x8961 ∷ 0x5d79 ∷ 0xffff ∷ []) 0xb923 10 3
     ∷ no (0x7001 ∷ 0x8961 ∷ 0x7001 ∷ 0x5d79 ∷ []) 0x4923 10 3 ∷ []
 
 -- 13 at the last word: the sum of all words, headers too; after 6 and 10

@@ -31,7 +31,8 @@ headers =
     map (λ k. no (row k 3 0 0 ∷ []) 21 0) (0 ∷ 1 ∷ 16 ∷ 31 ∷ 33 ∷ 34 ∷ 35 ∷ 36 ∷ 0x00010020 ∷ [])
     ++ map (λ id. no (row 32 id 0 0 ∷ []) 22 0) (0 ∷ 1 ∷ 2 ∷ 5 ∷ 8 ∷ 9 ∷ 15 ∷ 16 ∷ 0x00010003 ∷ [])
     ++ map (λ r. no (r ∷ []) 22 0)
-    (row 32 2 2 0 ∷ row 32 2 4097 0 ∷ row 32 6 1 0 ∷ row 32 6 3 0 ∷ row 32 6 4096 0 ∷ row 32 7 4096 0 ∷ row 32 3 4096 0 ∷ row 32 15 2 0 ∷ row 32 15 4097 0 ∷ row 32 3 1 1 ∷ row 32 15 1 1 ∷ [])
+    (row 32 2 2 0 ∷ row 32 2 4097 0 ∷ row 32 6 1 0 ∷ row 32 6 3 0 ∷ row 32 6 4096 0 ∷ row 32 7 4096 0 ∷ row 32 3 4096 0 ∷ row 32 15 2 0 ∷ row 32 15 4097 0 ∷ row 32 3 1 1
+    ∷ row 32 15 1 1 ∷ [])
     ++ (no (row 32 3 4095 0 ∷ []) 21 1 ∷ no (row 32 3 0 0 ∷ row 32 1 0 0 ∷ []) 22 1
     ∷ ok (row 32 6 0 0 ∷ row 32 7 0 0 ∷ row 32 3 0 0 ∷ row 32 14 0 0 ∷ []) 0x2fff (0x6000 ∷ 0x7000 ∷ 0x3000 ∷ 0xe000 ∷ []) ∷ [])
 
@@ -39,15 +40,19 @@ headers =
 abbrev counts : List (Vector ℕ)
 counts =
     no (row 32 3 1 0 ∷ row 32 15 1 0 ∷ []) 21 1 ∷ no (row 32 3 1 0 ∷ row 33 0 0 1 ∷ row 33 0 0 1 ∷ []) 21 2 ∷ no (row 32 3 0 0 ∷ row 33 0 0 1 ∷ []) 21 1
-    ∷ no (row 32 2 1 0 ∷ row 33 0 0 1 ∷ row 33 0 0 1 ∷ []) 21 2 ∷ no (row 32 6 4 0 ∷ row 34 0 0 1 ∷ row 32 15 1 0 ∷ []) 21 2 ∷ no (row 32 6 2 0 ∷ row 34 0 0 1 ∷ row 34 0 1 1 ∷ []) 21 2
+    ∷ no (row 32 2 1 0 ∷ row 33 0 0 1 ∷ row 33 0 0 1 ∷ []) 21 2 ∷ no (row 32 6 4 0 ∷ row 34 0 0 1 ∷ row 32 15 1 0 ∷ []) 21 2
+    ∷ no (row 32 6 2 0 ∷ row 34 0 0 1 ∷ row 34 0 1 1 ∷ []) 21 2
     ∷ no (row 32 7 2 0 ∷ row 35 0 0 0 ∷ row 32 15 1 0 ∷ []) 21 2 ∷ no (row 32 7 1 0 ∷ row 35 0 0 0 ∷ row 36 0 0 0 ∷ []) 21 2 ∷ no (row 32 7 0 0 ∷ row 35 0 0 0 ∷ []) 21 1
-    ∷ map (λ k. no (row 32 3 1 0 ∷ row k 0 0 1 ∷ []) 21 1) (0 ∷ 11 ∷ 32 ∷ 34 ∷ 35 ∷ 36 ∷ []) ++ map (λ k. no (row 32 6 2 0 ∷ row k 0 0 1 ∷ []) 21 1) (18 ∷ 32 ∷ 33 ∷ 35 ∷ 36 ∷ [])
-    ++ map (λ k. no (row 32 7 1 0 ∷ row k 0 0 1 ∷ []) 21 1) (32 ∷ 33 ∷ 34 ∷ 36 ∷ 37 ∷ []) ++ map (λ k. no (row 32 7 2 0 ∷ row 35 0 0 0 ∷ row k 0 0 1 ∷ []) 21 2) (32 ∷ 33 ∷ 34 ∷ 37 ∷ [])
+    ∷ map (λ k. no (row 32 3 1 0 ∷ row k 0 0 1 ∷ []) 21 1) (0 ∷ 11 ∷ 32 ∷ 34 ∷ 35 ∷ 36 ∷ [])
+    ++ map (λ k. no (row 32 6 2 0 ∷ row k 0 0 1 ∷ []) 21 1) (18 ∷ 32 ∷ 33 ∷ 35 ∷ 36 ∷ [])
+    ++ map (λ k. no (row 32 7 1 0 ∷ row k 0 0 1 ∷ []) 21 1) (32 ∷ 33 ∷ 34 ∷ 36 ∷ 37 ∷ [])
+    ++ map (λ k. no (row 32 7 2 0 ∷ row 35 0 0 0 ∷ row k 0 0 1 ∷ []) 21 2) (32 ∷ 33 ∷ 34 ∷ 37 ∷ [])
 
 -- words of 16 bits, scalers of 24 with their index, modules of 8, 3 and 3, data of 5 and 10: 22
 abbrev fields : List (Vector ℕ)
 fields =
-    ok (row 32 2 1 0 ∷ row 33 0 0 0xffff ∷ []) 0xefff (0x2001 ∷ 0xffff ∷ []) ∷ ok (row 32 6 4 0 ∷ row 34 0 0 0xffffff ∷ row 34 0 1 0x8cc66 ∷ []) 0xe28f (0x6004 ∷ 0xffff ∷ 0x00ff ∷ 0xcc66 ∷ 8 ∷ [])
+    ok (row 32 2 1 0 ∷ row 33 0 0 0xffff ∷ []) 0xefff (0x2001 ∷ 0xffff ∷ []) ∷ ok (row 32 6 4 0 ∷ row 34 0 0 0xffffff
+    ∷ row 34 0 1 0x8cc66 ∷ []) 0xe28f (0x6004 ∷ 0xffff ∷ 0x00ff ∷ 0xcc66 ∷ 8 ∷ [])
     ∷ ok (row 32 7 4 0 ∷ row 35 255 7 7 ∷ row 36 0 31 0x03ff ∷ row 35 97 1 2 ∷ row 36 0 0 0 ∷ []) 0xd59c (0x7004 ∷ 0xbfff ∷ 0x7fff ∷ 0x8a61 ∷ 0 ∷ [])
     ∷ map (λ r. no (row 32 3 1 0 ∷ r ∷ []) 22 1) (row 33 0 0 65536 ∷ row 33 0 0 0xffffffff ∷ row 33 1 0 0 ∷ row 33 0 1 0 ∷ [])
     ++ map (λ r. no (row 32 2 1 0 ∷ r ∷ []) 22 1) (row 33 0 0 65536 ∷ row 33 1 0 0 ∷ row 33 0 1 0 ∷ [])
@@ -57,9 +62,11 @@ fields =
 -- the sum's word: 22 at its own row out of its range; wrong, after all rows, so that a row more is 21 there. 23 after it. (0x3ffe + 4,094 × 1 + 0xf001 + 0xc003 = 0x20000.)
 abbrev sums : List (Vector ℕ)
 sums =
-    no (row 32 15 1 0 ∷ row 33 0 0 0x0ffe ∷ []) 22 1 ∷ no (row 32 15 1 0 ∷ row 33 0 0 0 ∷ []) 22 1 ∷ no (row 32 15 1 0 ∷ row 33 0 0 0x00010fff ∷ []) 22 1 ∷ no (row 32 3 0 0 ∷ row 32 15 1 0 ∷ row 33 0 0 0x0fff ∷ []) 22 2
+    no (row 32 15 1 0 ∷ row 33 0 0 0x0ffe ∷ []) 22 1 ∷ no (row 32 15 1 0 ∷ row 33 0 0 0 ∷ []) 22 1 ∷ no (row 32 15 1 0 ∷ row 33 0 0 0x00010fff ∷ []) 22 1 ∷ no (row 32 3 0 0
+    ∷ row 32 15 1 0 ∷ row 33 0 0 0x0fff ∷ []) 22 2
     ∷ no (row 32 15 1 0 ∷ row 33 1 0 0x0fff ∷ []) 22 1 ∷ no (row 32 15 1 0 ∷ row 36 0 0 0x0fff ∷ []) 21 1
-    ∷ no (row 32 15 1 0 ∷ row 33 0 0 0x0fff ∷ row 33 0 0 0 ∷ []) 21 2 ∷ no (row 32 15 1 0 ∷ row 33 0 0 0 ∷ row 32 3 0 0 ∷ []) 21 2 ∷ no (row 32 15 1 0 ∷ row 33 0 0 0x0fff ∷ row 32 15 1 0 ∷ row 33 0 0 0x0fff ∷ []) 21 2
+    ∷ no (row 32 15 1 0 ∷ row 33 0 0 0x0fff ∷ row 33 0 0 0 ∷ []) 21 2 ∷ no (row 32 15 1 0 ∷ row 33 0 0 0 ∷ row 32 3 0 0 ∷ []) 21 2 ∷ no (row 32 15 1 0 ∷ row 33 0 0 0x0fff
+    ∷ row 32 15 1 0 ∷ row 33 0 0 0x0fff ∷ []) 21 2
     ∷ no (row 32 15 1 0 ∷ row 33 0 0 65536 ∷ row 0 0 0 0 ∷ []) 22 1
     ∷ ok (row 32 3 4093 0 ∷ replicate 4093 (row 33 0 0 1)) 0xc005 (0x3ffd ∷ replicate 4093 1)
     ∷ no (row 32 3 4094 0 ∷ (replicate 4094 (row 33 0 0 1) ++ (row 32 15 1 0 ∷ row 33 0 0 0xc003 ∷ []))) 23 4097

@@ -39,7 +39,8 @@ pub codes-anything : {E : Type 0} → Codes {E = E} any (give (tt {0})) (λ u. [
 codes-anything = same (codes-give tt) (λ u g. tt) (λ u g. refl) (λ u g. refl)
 
 -- and its sum
-pub codes-event : {E : Type 0} {Rest : List E → Type 0} {parts : Parser E Event} {print : Event → List E} (n : ℕ) → Codes Rest parts print ValidParts → Codes Rest (lastly summed n parts) print Formed
+pub codes-event : {E : Type 0} {Rest : List E → Type 0} {parts : Parser E Event} {print : Event → List E} (n : ℕ)
+    → Codes Rest parts print ValidParts → Codes Rest (lastly summed n parts) print Formed
 codes-event n c = same (codes-lastly summed n c) (λ e g. record { regions = g .0 .0; word = g .0 .1; sum = g .1 }) (λ e g. ((g .regions, g .word), g .sum)) (λ e g. refl)
 
 pub ends-parts : {E : Type 0} (m : ℕ) (regions : Parser E (List Region)) (sumRegion : Parser E ℕ) → Ends ended (partsOf regions sumRegion (finish m))
@@ -49,7 +50,8 @@ pub ends-event : {E : Type 0} (n m : ℕ) (regions : Parser E (List Region)) (su
 ends-event n m regions sumRegion = ends-lastly ended summed n (partsOf regions sumRegion (finish m)) (ends-parts m regions sumRegion)
 
 -- what it refuses, beside its parts: by m what follows, by n a sum at its own place
-pub keeps-event : {E : Type 0} {number : ℕ → Bool} {end : ℕ} {past : ℕ → ℕ} {regions : Parser E (List Region)} {sumRegion : Parser E ℕ} {s : List E} (n m : ℕ) → T (number n) → T (number m)
+pub keeps-event : {E : Type 0} {number : ℕ → Bool} {end : ℕ} {past : ℕ → ℕ} {regions : Parser E (List Region)} {sumRegion : Parser E ℕ} {s : List E}
+    (n m : ℕ) → T (number n) → T (number m)
     → (1 ≤ length s → 1 ≤ end) → Keeps number end past s regions (λ r. length r ≤ length s) → ((r : List E) → Keeps number end past r sumRegion (λ t. length t < length r))
     → Keeps number end past s (lastly summed n (partsOf regions sumRegion (finish m))) (λ r. length r ≡ 0)
 keeps-event n m t u some c d = keeps-lastly summed n t (keeps-bind c λ gs r l. keeps-bind (d r) λ w r₁ l₁. keeps-map _ (keeps-left (keeps-finish m u) (λ r₂ z. (some (omega arith), z))))

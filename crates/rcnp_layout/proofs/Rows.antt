@@ -33,11 +33,11 @@ pub codes-vdc : (begun : Bool) → Codes any (vdcValue begun) (λ x. vdcRow x �
 codes-vdc begun = codes-row-at (vdcStands begun) vdcOf vdcRow (vdcChecks 22 begun) stands back
   where
     stands : (x : VdcWord) → ValidVdc begun x → T (vdcStands begun (vdcRow x))
-    stands (head unit number mode) p = tt
+    stands (head moduleId eventNumber mode) p = tt
     stands (datum channel time) p = rw (T-true begun (both begun _ (p .0) .0)) tt
 
     back : (x : VdcWord) → ValidVdc begun x → vdcOf (vdcRow x) ≡ x
-    back (head unit number mode) p = refl
+    back (head moduleId eventNumber mode) p = refl
     back (datum channel time) p = refl
 
 -- as many rows as the size says

@@ -49,11 +49,12 @@ content-words scaler vs = each-prints rowWords scalerWords (λ i v. scalerRow i 
 content-words vdc xs = each-mapped rowWords (λ x. vdcWord x ∷ []) vdcRow one xs ∙ each-map vdcWord xs
   where
     one : (x : VdcWord) → rowWords (vdcRow x) ≡ vdcWord x ∷ []
-    one (head unit number mode) = refl
+    one (head moduleId eventNumber mode) = refl
     one (datum channel time) = refl
 content-words (opaque k) ws = each-mapped rowWords wordAlone wordRow (λ w. refl) ws ∙ each-alone ws
 
 -- so an event's words are those of its rows, one after the other
 pub words-of-rows : (e : Event) → each rowWords (rows e) ≡ words e
 words-of-rows e = each-append rowWords (each regionRows (e .regions)) (sumRows (e .sum)) ∙ ap (_++ sumWords (e .sum))
-    (ap (each rowWords) (sym (prints-each regionRows alone tt (e .regions))) ∙ each-prints rowWords regionWords (λ u. regionRows) alone (λ u g. rw (content-words (g .form) (g .content))) tt (e .regions))
+    (ap (each rowWords) (sym (prints-each regionRows alone tt (e .regions)))
+    ∙ each-prints rowWords regionWords (λ u. regionRows) alone (λ u g. rw (content-words (g .form) (g .content))) tt (e .regions))

@@ -16,9 +16,9 @@ use Rattle.rcnp_layout.proofs.Sizes.{id-fits}
 ruleset tests = (arith, ltb→lt, lt→ltb)
 
 vdc-fits : (begun : Bool) (x : VdcWord) → ValidVdc begun x → Narrow 16 (vdcWord x)
-vdc-fits begun (head unit number mode) p =
-    let h = both (ltb unit (2 ^ 8)) _ (p .0) in
-    let k = both (ltb number (2 ^ 3)) _ (h .1) in
+vdc-fits begun (head moduleId eventNumber mode) p =
+    let h = both (ltb moduleId (2 ^ 8)) _ (p .0) in
+    let k = both (ltb eventNumber (2 ^ 3)) _ (h .1) in
     omega tests
 vdc-fits begun (datum channel time) p =
     let h = both begun _ (p .0) in

@@ -40,14 +40,14 @@ pub codes-vdc : (begun : Bool) → Codes any (vdcValue begun) (λ x. vdcWord x �
 codes-vdc begun = codes-layout 10 vdcOf vdcWord (vdcChecks 10 begun) back
   where
     back : (x : VdcWord) → ValidVdc begun x → vdcOf (vdcWord x) ≡ x
-    back (head unit number mode) p =
-        let h = both (ltb unit (2 ^ 8)) _ (p .0) in
-        let k = both (ltb number (2 ^ 3)) _ (h .1) in
-        let w = vdcWord (head unit number mode) in
-        let a : w % 2 ^ 8 ≡ unit = omega (arith, ltb→lt) in
-        let q : w / 2 ^ 11 ≡ 16 + number = omega (arith, ltb→lt) in
-        let b : w / 2 ^ 11 % 2 ^ 3 ≡ number = rw q (omega (arith, ltb→lt)) in
-        let s : w / 2 ^ 8 ≡ 128 + number * 8 + mode = omega (arith, ltb→lt) in
+    back (head moduleId eventNumber mode) p =
+        let h = both (ltb moduleId (2 ^ 8)) _ (p .0) in
+        let k = both (ltb eventNumber (2 ^ 3)) _ (h .1) in
+        let w = vdcWord (head moduleId eventNumber mode) in
+        let a : w % 2 ^ 8 ≡ moduleId = omega (arith, ltb→lt) in
+        let q : w / 2 ^ 11 ≡ 16 + eventNumber = omega (arith, ltb→lt) in
+        let b : w / 2 ^ 11 % 2 ^ 3 ≡ eventNumber = rw q (omega (arith, ltb→lt)) in
+        let s : w / 2 ^ 8 ≡ 128 + eventNumber * 8 + mode = omega (arith, ltb→lt) in
         let c : w / 2 ^ 8 % 2 ^ 3 ≡ mode = rw s (omega (arith, ltb→lt)) in
         rw (le-leb (2 ^ 15) w (omega arith), a, b, c)
     back (datum channel time) p =
@@ -93,7 +93,8 @@ codes-region = codes-here λ p. same
 
 pub codes-sum : Codes any sumRegion sumWords (λ w. Passed (wordChecks 0 w))
 codes-sum = codes-here λ p. same
-    (codes-bind (λ w. 1) (codes-layout 6 (_% 2 ^ 12) (headerWord sumId) (sizeChecks 6) (λ n g. header-parts sumId n g .1)) (λ n g. codes-filling p n (eqb n 1) (less codes-word (λ r t. tt))) (λ n w g. g .1))
+    (codes-bind (λ w. 1) (codes-layout 6 (_% 2 ^ 12) (headerWord sumId) (sizeChecks 6) (λ n g. header-parts sumId n g .1))
+    (λ n g. codes-filling p n (eqb n 1) (less codes-word (λ r t. tt))) (λ n w g. g .1))
     (λ w g. g .1 .0 .1) (λ w g. ((tt, tt), ((tt, g), refl))) (λ w g. refl)
 
 on : (g : Region) → ValidRegion g → (r : List ℕ) → atSum (regionWords g ++ r) ≡ false

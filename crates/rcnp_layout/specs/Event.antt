@@ -6,7 +6,7 @@ use Rattle.event.specs.Parser.{lookUp}
 
 -- a word of a VDC region: a module's header, with its bits 13-11 (event number) and 10-8 (edges, resolution), or a datum of the module before it
 pub data VdcWord : Type 0 where
-  head : (unit number mode : ℕ) → VdcWord
+  head : (moduleId eventNumber mode : ℕ) → VdcWord
   datum : (channel time : ℕ) → VdcWord
 
 -- the regions whose words stay opaque (names of document 003)

@@ -28,7 +28,7 @@ scalerWords v = v % 2 ^ 16 ∷ v / 2 ^ 16 ∷ []
 
 -- a module header: bit 15 set, bit 14 zero, bits 13-11, bits 10-8, module in bits 7-0; a data word: bit 15 clear, channel in bits 14-10, time in bits 9-0
 abbrev pub vdcWord : VdcWord → ℕ
-vdcWord (head unit number mode) = 2 ^ 15 + number * 2 ^ 11 + mode * 2 ^ 8 + unit
+vdcWord (head moduleId eventNumber mode) = 2 ^ 15 + eventNumber * 2 ^ 11 + mode * 2 ^ 8 + moduleId
 vdcWord (datum channel time) = channel * 2 ^ 10 + time
 
 abbrev pub contentWords : (f : Form) → Content f → List ℕ
@@ -75,7 +75,7 @@ abbrev pub nextIndex : ℕ → ℕ → ℕ
 nextIndex index value = suc index
 
 abbrev pub vdcRow : VdcWord → Row
-vdcRow (head unit number mode) = row 35 unit number mode
+vdcRow (head moduleId eventNumber mode) = row 35 moduleId eventNumber mode
 vdcRow (datum channel time) = row 36 0 channel time
 
 abbrev pub contentRows : (f : Form) → Content f → List Row
@@ -114,7 +114,7 @@ scalerChecks n v = belowChecks n (2 ^ 24) v
 
 -- each field in its bits; a VDC region begins with a header unless empty: `begun` where a word came before
 abbrev pub vdcFits : Bool → VdcWord → Bool
-vdcFits begun (head unit number mode) = ltb unit (2 ^ 8) && (ltb number (2 ^ 3) && ltb mode (2 ^ 3))
+vdcFits begun (head moduleId eventNumber mode) = ltb moduleId (2 ^ 8) && (ltb eventNumber (2 ^ 3) && ltb mode (2 ^ 3))
 vdcFits begun (datum channel time) = begun && (ltb channel (2 ^ 5) && ltb time (2 ^ 10))
 
 abbrev pub vdcChecks : ℕ → Bool → VdcWord → List Test

@@ -1,15 +1,14 @@
 -- How many ids the packet of a tag may have, as the code looks it up.
 -- Assumes nothing.
-use Prim.Native.Nat.{ℕ, zero, suc, _+_, _*_, _/_, _%_, _<_}
+use Prim.Native.Nat.{ℕ, suc, _+_, _*_, _/_, _%_, _<_}
 use native.Mathlib.Omega.{arith}
 use mathlib.Core.Path.{_≡_, refl, sym, ap, _∙_}
 use mathlib.Core.Logic.{_⊎_, inl, inr}
-use mathlib.Core.Bool.{Bool, true, false, _&&_}
 use mathlib.Core.List.{List, [], _∷_}
-use lib.Dec.{T, eqb, eqb→eq}
+use lib.Dec.{eqb, eqb→eq}
 use lib.ListN.{getD}
-use borrow.Author.Tests.{eq-eqb, ne-eqb, eqb-true, eqb-false}
-use Rattle.event.proofs.Elements.{both}
+use borrow.Author.Tests.{eq-eqb, ne-eqb}
+use Rattle.event.proofs.Tables.{holdsBelow, holds-below}
 use Rattle.s800_layout.specs.Event.{focalPlaneTime, intermediateCrdc, targetPin, intermediateTrack, intermediatePpac, objectScintillator, Form, trigger, timeOfFlight, scintillator, ionChamber, crdc, hodoscope, objectPin, vmeAdc, opaque, formOf, tag, largestId}
 use Rattle.s800_layout.proofs.Lengths.{form-back}
 use Rattle.s800_writer.specs.Packets.{idCount}
@@ -23,27 +22,13 @@ count-none : (t : ℕ) → ((f : Form) → t ≡ tag f → ⊥) → 0 ≡ idCoun
 unfolding idCount
 count-none t z = rw (ne-eqb (tag (formOf t)) t (λ e. z (formOf t) (sym e)))
 
--- two tables that are the same up to n, by a test of each number below it
-same : ℕ → (ℕ → ℕ) → (ℕ → ℕ) → Bool
-same zero f g = true
-same (suc n) f g = eqb (f n) (g n) && same n f g
-
-same-at : (n : ℕ) (f g : ℕ → ℕ) → T (same n f g) → (x : ℕ) → x < n → f x ≡ g x
-unfolding same
-same-at zero f g t x h = absurd (omega arith)
-same-at (suc n) f g t x h = go (same-at n f g (both (eqb (f n) (g n)) (same n f g) t .1) x) (eqb x n) refl
-  where
-    go : (x < n → f x ≡ g x) → (b : Bool) → eqb x n ≡ b → f x ≡ g x
-    go below true e = rw (eqb-true x n e) (eqb→eq (f n) (g n) (both (eqb (f n) (g n)) (same n f g) t .0))
-    go below false e = below (omega (arith, eqb-false x n e))
-
 -- by x, for tag 0x58x0
 abbrev ids : List ℕ
 ids = 0 ∷ 1 ∷ 1 ∷ 1 ∷ 2 ∷ 1 ∷ 1 ∷ 1 ∷ 1 ∷ 1 ∷ 1 ∷ 3 ∷ 4 ∷ 0 ∷ 0 ∷ 0 ∷ []
 
 ids-right : (x : ℕ) → x < 16 → getD ids x 0 ≡ idCount (0x5800 + 16 * x)
-unfolding idCount same
-ids-right = same-at 16 (λ x. getD ids x 0) (λ x. idCount (0x5800 + 16 * x)) tt
+unfolding idCount holdsBelow
+ids-right x h = eqb→eq (getD ids x 0) (idCount (0x5800 + 16 * x)) (holds-below 16 (λ n. eqb (getD ids n 0) (idCount (0x5800 + 16 * n))) tt x h)
 
 pub count-looked-up : (t : ℕ) → t / 256 ≡ 0x58 → t % 16 ≡ 0 → getD ids (t / 16 % 16) 0 ≡ idCount t
 count-looked-up t h l =
