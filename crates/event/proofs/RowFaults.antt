@@ -2,15 +2,17 @@
 -- Assumes nothing.
 use Prim.Native.Nat.{ℕ, _<_}
 use mathlib.Core.Path.{_≡_, refl, sym}
-use mathlib.Core.Bool.{Bool, true, false, cond, not}
+use mathlib.Core.Bool.{Bool, true, false, cond, not, _&&_}
 use mathlib.Core.List.{List, [], _∷_}
-use lib.Dec.{T, eqb, ltb→lt, lt→ltb}
+use lib.Dec.{T, eqb, ltb, eqb→eq, ltb→lt, lt→ltb}
 use borrow.Author.Tests.{eq-eqb, ne-eqb, eqb-true, eqb-false}
 use Rattle.event.specs.declared.Row.{Row}
 use Rattle.event.specs.Parser.{Test, test, Passed, faultIn}
 use Rattle.event.specs.Rows.{row}
 use Rattle.event.specs.Words.{belowChecks}
 use Rattle.event.specs.Writing.{sameRow, rowTests, ofKind}
+use Rattle.event.proofs.Codes.{T-true}
+use Rattle.event.proofs.Elements.{both}
 use Rattle.event.proofs.RowCodes.{SameFields, same-fields, fields-same}
 
 -- no test has the number 0
@@ -85,3 +87,25 @@ by-test {number} {kind} {k} {Keeps} j b to from = go (eqb k kind) refl b to from
     go true e true to from = sym (j .right (sym (eqb-true k kind e)) (to tt))
     go true e false to from = sym (j .wrong (sym (eqb-true k kind e)) from)
     go false e b to from = sym (j .other (λ q. eqb-false k kind e (sym q)))
+
+-- three tests, each and all
+pub each-of : (a b c : Bool) → T ((a && b) && c) → T a × T b × T c
+each-of a b c t =
+    let x = both (a && b) c t in
+    let y = both a b (x .0) in
+    (y .0, y .1, x .1)
+
+pub three : (a b c : Bool) → T a → T b → T c → T ((a && b) && c)
+three a b c x y z = rw (T-true a x, T-true b y) z
+
+-- so of a row of which only the datum is free
+pub datum-test : (k unit channel bound : ℕ) (r : Row)
+    → faultIn (rowTests (ofKind k) (λ r. r .datum) (row k unit channel) (belowChecks 22 bound) r)
+    ≡ cond (eqb k (r .kind)) (cond ((eqb (r .unit) unit && eqb (r .channel) channel) && ltb (r .datum) bound) 0 22) 21
+datum-test k unit channel bound r =
+    let a = eqb (r .unit) unit in
+    let b = eqb (r .channel) channel in
+    let c = ltb (r .datum) bound in
+    by-test (datum-judged k unit channel bound r) ((a && b) && c)
+    (λ t. let x = each-of a b c t in (eqb→eq (r .unit) unit (x .0), eqb→eq (r .channel) channel (x .1), ltb→lt (r .datum) bound (x .2)))
+    (λ y. three a b c (rw (eq-eqb (r .unit) unit (y .0)) tt) (rw (eq-eqb (r .channel) channel (y .1)) tt) (lt→ltb (r .datum) bound (y .2)))
