@@ -79,14 +79,22 @@ pub datum-judged : (k unit channel bound : ℕ) (r : Row)
 datum-judged k unit channel bound r = judged k (λ r. r .datum) (row k unit channel) (belowChecks 22 bound) r (refl, tt)
     (λ p. (p .0 .1, p .0 .2, ltb→lt (r .datum) bound (p .1 .0))) (λ e h. ((e, h .0, h .1, refl), (lt→ltb (r .datum) bound (h .2), tt)))
 
--- that number, where b says that the other rules hold
-pub by-test : {number kind k : ℕ} {Keeps : Type 0} → Judged number kind k Keeps → (b : Bool) → (T b → Keeps) → (Keeps → T b) → number ≡ cond (eqb k kind) (cond b 0 22) 21
-by-test {number} {kind} {k} {Keeps} j b to from = go (eqb k kind) refl b to from
+-- the same by one test: b says that the other rules hold
+pub record Tested (number kind k : ℕ) (b : Bool) : Type 0 where
+  pub other : (kind ≡ k → ⊥) → 21 ≡ number
+  pub kept : kind ≡ k → b ≡ true → 0 ≡ number
+  pub broken : kind ≡ k → b ≡ false → 22 ≡ number
+
+pub tested : {number kind k : ℕ} {Keeps : Type 0} → Judged number kind k Keeps → (b : Bool) → (T b → Keeps) → (Keeps → T b) → Tested number kind k b
+tested j b to from = record { other = j .other; kept = λ e t. j .right e (to (rw t tt)); broken = λ e f. j .wrong e (λ h. absurd (rw f at (from h))) }
+
+pub test-number : {number kind k : ℕ} {b : Bool} → Tested number kind k b → number ≡ cond (eqb k kind) (cond b 0 22) 21
+test-number {number} {kind} {k} {b} j = go (eqb k kind) refl b refl
   where
-    go : (h : Bool) → eqb k kind ≡ h → (b : Bool) → (T b → Keeps) → (Keeps → T b) → number ≡ cond h (cond b 0 22) 21
-    go true e true to from = sym (j .right (sym (eqb-true k kind e)) (to tt))
-    go true e false to from = sym (j .wrong (sym (eqb-true k kind e)) from)
-    go false e b to from = sym (j .other (λ q. eqb-false k kind e (sym q)))
+    go : (h : Bool) → eqb k kind ≡ h → (a : Bool) → b ≡ a → number ≡ cond h (cond a 0 22) 21
+    go true e true t = sym (j .kept (sym (eqb-true k kind e)) t)
+    go true e false t = sym (j .broken (sym (eqb-true k kind e)) t)
+    go false e a t = sym (j .other (λ q. eqb-false k kind e (sym q)))
 
 -- three tests, each and all
 pub each-of : (a b c : Bool) → T ((a && b) && c) → T a × T b × T c
@@ -98,14 +106,12 @@ each-of a b c t =
 pub three : (a b c : Bool) → T a → T b → T c → T ((a && b) && c)
 three a b c x y z = rw (T-true a x, T-true b y) z
 
--- so of a row of which only the datum is free
-pub datum-test : (k unit channel bound : ℕ) (r : Row)
-    → faultIn (rowTests (ofKind k) (λ r. r .datum) (row k unit channel) (belowChecks 22 bound) r)
-    ≡ cond (eqb k (r .kind)) (cond ((eqb (r .unit) unit && eqb (r .channel) channel) && ltb (r .datum) bound) 0 22) 21
-datum-test k unit channel bound r =
+pub datum-tested : (k unit channel bound : ℕ) (r : Row)
+    → Tested (faultIn (rowTests (ofKind k) (λ r. r .datum) (row k unit channel) (belowChecks 22 bound) r)) (r .kind) k ((eqb (r .unit) unit && eqb (r .channel) channel) && ltb (r .datum) bound)
+datum-tested k unit channel bound r =
     let a = eqb (r .unit) unit in
     let b = eqb (r .channel) channel in
     let c = ltb (r .datum) bound in
-    by-test (datum-judged k unit channel bound r) ((a && b) && c)
+    tested (datum-judged k unit channel bound r) ((a && b) && c)
     (λ t. let x = each-of a b c t in (eqb→eq (r .unit) unit (x .0), eqb→eq (r .channel) channel (x .1), ltb→lt (r .datum) bound (x .2)))
     (λ y. three a b c (rw (eq-eqb (r .unit) unit (y .0)) tt) (rw (eq-eqb (r .channel) channel (y .1)) tt) (lt→ltb (r .datum) bound (y .2)))

@@ -17,7 +17,7 @@ use Rattle.event.specs.Words.{belowChecks}
 use Rattle.event.specs.Writing.{rowTests, ofKind, atKind, rowsIn, rowAt}
 use Rattle.event.proofs.Codes.{true-T}
 use Rattle.event.proofs.RowCodes.{SameFields}
-use Rattle.event.proofs.RowFaults.{OfField, judged, by-test, each-of, three, datum-test}
+use Rattle.event.proofs.RowFaults.{OfField, judged, tested, test-number, each-of, three, datum-tested}
 use Rattle.event.proofs.RowsIn.{rows-count}
 use Rattle.event.proofs.RowJudged.{rows-from, rows-over}
 use Rattle.s800_layout.specs.Layout.{sampleRow, anodeRow, registerRow, stampRow, numberRow, sampleChecks, anodeChecks, registerChecks, stampChecks, numberChecks}
@@ -41,11 +41,11 @@ module _ {A : Type 0} (k u c d : ℕ) (fields : Row → A) (print : A → Row) (
 
   by-limits : OfField (checks (fields r)) → (Rules → Within) → (r .kind ≡ k → Within → Rules) → faultIn (rowTests (ofKind k) fields print checks r) ≡ limitsFault k u c d r
   unfolding limitsFault
-  by-limits all to from = by-test (judged k fields print checks r all to from) ((leb (r .unit) u && leb (r .channel) c) && leb (r .datum) d)
+  by-limits all to from = test-number (tested (judged k fields print checks r all to from) ((leb (r .unit) u && leb (r .channel) c) && leb (r .datum) d)
       (λ t.
       let x = each-of (leb (r .unit) u) (leb (r .channel) c) (leb (r .datum) d) t in
       (leb→le (r .unit) u (x .0), leb→le (r .channel) c (x .1), leb→le (r .datum) d (x .2)))
-      (λ y. three (leb (r .unit) u) (leb (r .channel) c) (leb (r .datum) d) (le→leb (r .unit) u (y .0)) (le→leb (r .channel) c (y .1)) (le→leb (r .datum) d (y .2)))
+      (λ y. three (leb (r .unit) u) (leb (r .channel) c) (leb (r .datum) d) (le→leb (r .unit) u (y .0)) (le→leb (r .channel) c (y .1)) (le→leb (r .datum) d (y .2))))
 
 -- what a row without a fault has
 pub record Bounded (k u c d : ℕ) (r : Row) : Type 0 where
@@ -94,4 +94,4 @@ number-fault r = by-limits 3 0 65535 0xffffffff numberOf numberRow (numberChecks
 -- the time of a pair
 pub time-fault : (channel : ℕ) (r : Row) → faultIn (rowTests (ofKind 5) (λ r. r .datum) (row 5 0 channel) (belowChecks 22 (2 ^ 12)) r) ≡ timeFault channel r
 unfolding timeFault
-time-fault channel r = datum-test 5 0 channel (2 ^ 12) r
+time-fault channel r = test-number (datum-tested 5 0 channel (2 ^ 12) r)

@@ -1,0 +1,2 @@
+pub mod RowTotals
+pub mod RowRules
