@@ -1,2 +1,3 @@
 pub mod RowTotals
 pub mod RowRules
+pub mod Contents

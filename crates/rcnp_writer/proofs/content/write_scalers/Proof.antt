@@ -1,85 +1,70 @@
+-- `content::write_scalers` meets its contract. Assumes nothing.
+use Prim.Native.Nat.{ℕ, _+_, _-_, _/_, _^_, _≤_, _<_}
+use native.Mathlib.Omega.{arith}
+use mathlib.Core.Path.{_≡_, refl, sym, _∙_}
+use mathlib.Core.List.{List}
+use lib.ListN.{length}
+use Rattle.event.specs.Writing.{rowsIn}
+use Rattle.event.proofs.CountedRows.{counted-begin}
+use Rattle.event.proofs.RowsIn.{rows-count}
+use Rattle.rcnp_writer.specs.Faults.{datumFault}
+use Rattle.rcnp_writer.proofs.Contents.{Scalers, scalers-done, scaler-refused, scaler-there, scaler-next}
+use borrow.Author.Needs.{needs}
 use Rattle.rcnp_writer.proofs.content.write_scalers.Statement.{statement}
 use Rattle.rcnp_writer.proofs.content.write_scalers.Tie as tie
-use Rattle.rcnp_writer.proofs.content.write_scalers.Reads as reads
-use Rattle.rcnp_writer.proofs.content.write_scalers.Lts as lts
-use Rattle.event.proofs.refuse_part.Reads as refuse-part-reads
-use Rattle.event.proofs.rows.row_at.Reads as row-at-reads
-use Rattle.rcnp_writer.proofs.content.store_scaler.Reads as store-scaler-reads
-use Rattle.rcnp_writer.proofs.fault.datum_fault.Reads as datum-fault-reads
 
 abbrev Inv-loop : tie.InvT-loop
-Inv-loop rows first n words₀ index₀ at₀ words index at = ?
+Inv-loop rows first n words₀ index₀ at₀ words index at = Scalers (rowsIn rows) n first words₀ index at words
 
 abbrev μ-loop : tie.MeasureT-loop
-μ-loop rows first n words₀ index₀ at₀ words index at = ?
+μ-loop rows first n words₀ index₀ at₀ words index at = n - index
 
--- src/content.rt:61:5
-loop-holds : tie.Need-loop-holds Inv-loop μ-loop
-loop-holds c = ?
+-- The loop's head: the elements, and the rows left.
+module _ (l : tie.At-loop Inv-loop μ-loop) where
+  abbrev entry : tie.Start Inv-loop μ-loop
+  entry = l .before .before .before
 
--- src/content.rt:62:25
-cast-i : tie.Need-cast-i Inv-loop μ-loop
-cast-i c = ?
+  abbrev elements : List ℕ
+  elements = entry .args .rows .now
 
--- src/content.rt:62:17
-add-i : tie.Need-add-i Inv-loop μ-loop
-add-i c = ?
+  inside : entry .args .first + l .loop .index ≤ length elements / 4
+  inside = omega (arith, l .loop .inv .reached .inside, rows-count elements)
 
--- src/content.rt:63:13
-row-at-requires : tie.Need-row-at-requires Inv-loop μ-loop
-row-at-requires c κs = ?
+-- A row that was judged.
+abbrev judged-in : tie.After-datum-fault Inv-loop μ-loop → tie.In-loop Inv-loop μ-loop
+judged-in d = d .before .before
 
--- src/content.rt:64:13
-datum-fault-requires : tie.Need-datum-fault-requires Inv-loop μ-loop
-datum-fault-requires c κs = ?
+-- A row that was taken.
+module _ (c : tie.Else1 Inv-loop μ-loop) where
+  abbrev turn : tie.In-loop Inv-loop μ-loop
+  turn = judged-in (c .before)
 
--- src/content.rt:66:13
-refuse-part-requires : tie.Need-refuse-part-requires Inv-loop μ-loop
-refuse-part-requires c κs = ?
+  right : 0 ≡ datumFault 34 (turn .before .loop .index) 0x1000000 (c .before .before .row-at .result)
+  right = sym (c .if1 .left) ∙ c .before .datum-fault .ensures
 
--- src/content.rt:66:13
-same-length : tie.Need-same-length Inv-loop μ-loop
-same-length c = ?
+  there : entry (turn .before) .args .first + turn .before .loop .index < length (rowsIn (elements (turn .before)))
+  there = scaler-there (turn .before .loop .inv) (turn .loop-test .taken) (c .before .before .row-at .ensures) right
 
--- src/content.rt:66:13
+  -- two words more
+  room : turn .before .loop .at + 2 < 2 ^ 64
+  room = let l = turn .before in omega (arith, there, rows-count (elements l), l .loop .inv .reached .few)
+
 returns : tie.Need-returns Inv-loop μ-loop
-returns c = ?
+returns c =
+    let d = c .before .before in
+    let t = judged-in d in
+    scaler-refused (t .before .loop .inv) (t .loop-test .taken) (d .before .row-at .ensures) _ (d .datum-fault .ensures) (c .before .if1 .taken) (c .refuse-part .ensures)
 
--- src/content.rt:68:9
-store-scaler-requires : tie.Need-store-scaler-requires Inv-loop μ-loop
-store-scaler-requires c κs = ?
+-- Its words were stored.
+abbrev taken : tie.After-slice-known2 Inv-loop μ-loop → tie.Else1 Inv-loop μ-loop
+taken c = c .before .before .before .before
 
--- src/content.rt:69:9
-add-at : tie.Need-add-at Inv-loop μ-loop
-add-at c = ?
-
--- src/content.rt:70:9
-add-index : tie.Need-add-index Inv-loop μ-loop
-add-index c = ?
-
--- src/content.rt:61:5
-loop-less : tie.Need-loop-less Inv-loop μ-loop
-loop-less c = ?
-
--- src/content.rt:61:5
 loop-again : tie.Need-loop-again Inv-loop μ-loop
-loop-again c = ?
-
--- src/content.rt:73:23
-cast-t15 : tie.Need-cast-t15 Inv-loop μ-loop
-cast-t15 c = ?
-
--- src/content.rt:73:15
-add-t16 : tie.Need-add-t16 Inv-loop μ-loop
-add-t16 c = ?
-
--- src/content.rt:55:1
-same-length-2 : tie.Need-same-length-2 Inv-loop μ-loop
-same-length-2 c = ?
-
--- src/content.rt:55:1
-returns-2 : tie.Need-returns-2 Inv-loop μ-loop
-returns-2 c = ?
+loop-again c =
+    let e = taken c in
+    let t = turn e in
+    let w = c .before .before in
+    scaler-next (t .before .loop .inv) (t .loop-test .taken) (e .before .before .row-at .ensures) (right e) refl (w .store-scaler .ensures) (w .store-scaler .kept .0)
 
 pub write-scalers-spec : {M : Type 1} → statement M
 write-scalers-spec =
@@ -87,20 +72,20 @@ write-scalers-spec =
     (tie.spec
     Inv-loop
     μ-loop
-    loop-holds
-    cast-i
-    add-i
-    row-at-requires
-    datum-fault-requires
-    refuse-part-requires
-    same-length
+    (λ c. counted-begin refl (c .before .before .pre .1) (omega arith))
+    (λ c. search needs)
+    (λ c. omega (arith, inside (c .before)))
+    (λ c κs. search needs)
+    (λ c κs. search needs)
+    (λ c κs. search needs)
+    (λ c. judged-in (c .before .before) .before .loop .inv .reached .same)
     returns
-    store-scaler-requires
-    add-at
-    add-index
-    loop-less
+    (λ c κs. omega (arith, room (c .before)))
+    (λ c. room (taken c))
+    (λ c. omega (arith, turn (taken c) .loop-test .taken))
+    (λ c. omega (arith, turn (taken c) .loop-test .taken))
     loop-again
-    cast-t15
-    add-t16
-    same-length-2
-    returns-2)
+    (λ c. search needs)
+    (λ c. omega (arith, inside (c .before)))
+    (λ c. c .before .loop .inv .reached .same)
+    (λ c. scalers-done (c .before .loop .inv) (c .loop-test .left)))
