@@ -1,3 +1,5 @@
 pub mod RowTotals
 pub mod RowRules
 pub mod Contents
+pub mod OneRegion
+pub mod Regions

@@ -81,7 +81,7 @@ write-scalers-spec =
     (λ c. judged-in (c .before .before) .before .loop .inv .reached .same)
     returns
     (λ c κs. omega (arith, room (c .before)))
-    (λ c. room (taken c))
+    (λ c. omega (arith, room (taken c)))
     (λ c. omega (arith, turn (taken c) .loop-test .taken))
     (λ c. omega (arith, turn (taken c) .loop-test .taken))
     loop-again

@@ -1,58 +1,48 @@
+-- `region::write_content` meets its contract. Assumes nothing.
+use mathlib.Core.List.{List}
+use Rattle.event.specs.declared.Row.{Row}
+use Rattle.event.specs.Writing.{rowsIn}
+use Rattle.rcnp_writer.proofs.OneRegion.{scalers-content, chamber-content, words-content}
 use borrow.Author.Needs.{needs}
 use Rattle.rcnp_writer.proofs.region.write_content.Statement.{statement}
 use Rattle.rcnp_writer.proofs.region.write_content.Tie as tie
-use Rattle.rcnp_writer.proofs.region.write_content.Reads as reads
-use Rattle.rcnp_writer.proofs.region.write_content.Lts as lts
-use Rattle.rcnp_writer.proofs.content.write_chamber.Reads as write-chamber-reads
-use Rattle.rcnp_writer.proofs.content.write_scalers.Reads as write-scalers-reads
-use Rattle.rcnp_writer.proofs.content.write_words.Reads as write-words-reads
 
--- src/region.rt:27:9
-write-scalers-requires : tie.Need-write-scalers-requires
-write-scalers-requires c κs = search needs
+module _ (s : tie.Start) where
+  abbrev rowsGiven : List Row
+  rowsGiven = rowsIn (s .args .rows .now)
 
--- src/region.rt:27:9
-same-length : tie.Need-same-length
-same-length c = search needs
-
--- src/region.rt:27:9
+-- The content by its form, each where its words were written.
 returns : tie.Need-returns
-returns c = ?
+returns c =
+    let w = c .before .before in
+    let t = w .before .before in
+    let s = t .before .before .before in
+    scalers-content (rowsGiven s) (s .args .first) (s .args .size) (s .args .id) (t .if1 .taken) (w .write-scalers .ensures)
 
--- src/region.rt:30:9
-write-chamber-requires : tie.Need-write-chamber-requires
-write-chamber-requires c κs = search needs
-
--- src/region.rt:30:9
-same-length-2 : tie.Need-same-length-2
-same-length-2 c = search needs
-
--- src/region.rt:30:9
 returns-2 : tie.Need-returns-2
-returns-2 c = ?
+returns-2 c =
+    let w = c .before .before in
+    let t = w .before .before in
+    let s = t .before .before .before .before in
+    chamber-content (rowsGiven s) (s .args .first) (s .args .size) (s .args .id) (t .if2 .taken) (w .write-chamber .ensures)
 
--- src/region.rt:32:5
-write-words-requires : tie.Need-write-words-requires
-write-words-requires c κs = search needs
-
--- src/region.rt:22:1
-same-length-3 : tie.Need-same-length-3
-same-length-3 c = search needs
-
--- src/region.rt:22:1
 returns-3 : tie.Need-returns-3
-returns-3 c = ?
+returns-3 c =
+    let w = c .before .before in
+    let t = w .before .before in
+    let s = t .before .before .before .before in
+    words-content (rowsGiven s) (s .args .first) (s .args .size) (s .pre) (t .before .if1 .left) (t .if2 .left) (w .write-words .ensures)
 
 pub write-content-spec : {M : Type 1} → statement M
 write-content-spec =
     tie.close
     (tie.spec
-    write-scalers-requires
-    same-length
+    (λ c κs. search needs)
+    (λ c. search needs)
     returns
-    write-chamber-requires
-    same-length-2
+    (λ c κs. search needs)
+    (λ c. search needs)
     returns-2
-    write-words-requires
-    same-length-3
+    (λ c κs. search needs)
+    (λ c. search needs)
     returns-3)

@@ -1,66 +1,67 @@
+-- `region::write_region` meets its contract. Assumes nothing.
+use Prim.Native.Nat.{_+_}
+use native.Mathlib.Omega.{arith}
+use mathlib.Core.Path.{_≡_, sym, _∙_}
+use mathlib.Core.List.{List}
+use Rattle.event.specs.declared.Row.{Row}
+use Rattle.event.specs.Writing.{rowsIn}
+use Rattle.event.proofs.RowsIn.{rows-count}
+use Rattle.rcnp_writer.specs.Faults.{headerFault}
+use Rattle.rcnp_writer.specs.Parts.{ContentAt}
+use Rattle.rcnp_writer.proofs.OneRegion.{header-refused, content-there, region-written}
 use borrow.Author.Needs.{needs}
 use Rattle.rcnp_writer.proofs.region.write_region.Statement.{statement}
 use Rattle.rcnp_writer.proofs.region.write_region.Tie as tie
-use Rattle.rcnp_writer.proofs.region.write_region.Reads as reads
-use Rattle.rcnp_writer.proofs.region.write_region.Lts as lts
-use Rattle.event.proofs.refuse_part.Reads as refuse-part-reads
-use Rattle.event.proofs.rows.row_at.Reads as row-at-reads
-use Rattle.event.proofs.words.store_word16.Reads as store-word16-reads
-use Rattle.rcnp_writer.proofs.fault.header_fault.Reads as header-fault-reads
-use Rattle.rcnp_writer.proofs.region.write_content.Reads as write-content-reads
-use Rattle.rcnp_writer.proofs.word.header_word.Reads as header-word-reads
 
--- src/region.rt:40:9
-row-at-requires : tie.Need-row-at-requires
-row-at-requires c κs = search needs
+-- The region's own row was judged.
+module _ (d : tie.After-header-fault) where
+  abbrev entry : tie.Start
+  entry = d .before .before .before .before
 
--- src/region.rt:41:9
-header-fault-requires : tie.Need-header-fault-requires
-header-fault-requires c κs = search needs
+  abbrev rowsGiven : List Row
+  rowsGiven = rowsIn (entry .args .rows .now)
 
--- src/region.rt:43:9
-refuse-part-requires : tie.Need-refuse-part-requires
-refuse-part-requires c κs = search needs
+  abbrev own : Row
+  own = d .before .row-at .result
 
--- src/region.rt:43:9
 returns : tie.Need-returns
-returns c = ?
+returns c =
+    let d = c .before .before in
+    header-refused (rowsGiven d) (entry d .args .at) (entry d .args .words .now) (d .before .row-at .ensures) _ (d .header-fault .ensures) (c .before .if1 .taken) (c .refuse-part .ensures)
 
--- src/region.rt:45:28
-header-word-requires : tie.Need-header-word-requires
-header-word-requires c κs = search needs
+-- It was taken.
+module _ (t : tie.Else1) where
+  right : 0 ≡ headerFault (own (t .before))
+  right = sym (t .if1 .left) ∙ t .before .header-fault .ensures
 
--- src/region.rt:45:5
-store-word16-requires : tie.Need-store-word16-requires
-store-word16-requires c κs = search needs
+  there : let d = t .before in ContentAt (rowsGiven d) (entry d .args .at + 1) (own d .unit) (own d .channel)
+  there = let d = t .before in content-there (rowsGiven d) (entry d .args .at) (entry d .args .words .now) (d .before .row-at .ensures) right
 
--- src/region.rt:46:25
-add-write-content : tie.Need-add-write-content
-add-write-content c = ?
+-- Its header was stored.
+abbrev taken : tie.After-slice-known2 → tie.Else1
+taken m = m .before .before .before .before .before
 
--- src/region.rt:46:5
-write-content-requires : tie.Need-write-content-requires
-write-content-requires c κs = ?
-
--- src/region.rt:36:1
-same-length : tie.Need-same-length
-same-length c = search needs
-
--- src/region.rt:36:1
 returns-2 : tie.Need-returns-2
-returns-2 c = ?
+returns-2 c =
+    let w = c .before .before in
+    let m = w .before .before in
+    let stored = m .before .before in
+    let t = taken m in
+    let d = t .before in
+    region-written (rowsGiven d) (entry d .args .at) (entry d .args .words .now) (d .before .row-at .ensures) (right t)
+    (stored .before .header-word .ensures) (stored .store-word16 .ensures) (w .write-content .ensures)
 
 pub write-region-spec : {M : Type 1} → statement M
 write-region-spec =
     tie.close
     (tie.spec
-    row-at-requires
-    header-fault-requires
-    refuse-part-requires
+    (λ c κs. search needs)
+    (λ c κs. search needs)
+    (λ c κs. search needs)
     returns
-    header-word-requires
-    store-word16-requires
-    add-write-content
-    write-content-requires
-    same-length
+    (λ c κs. search needs)
+    (λ c κs. search needs)
+    (λ c. let t = taken c in omega (arith, there t .inside, rows-count (entry (t .before) .args .rows .now)))
+    (λ c κs. there (taken (c .before)))
+    (λ c. search needs)
     returns-2)

@@ -1,84 +1,77 @@
+-- `whole::write_regions` meets its contract. Assumes nothing.
+use Prim.Native.Nat.{ℕ, _+_, _*_, _-_, _≤_, _<_}
+use native.Mathlib.Omega.{arith}
+use native.Mathlib.Nat.{min-le-right}
+use mathlib.Core.Path.{_≡_, refl, sym, _∙_}
+use mathlib.Core.Bool.{true, not}
+use mathlib.Core.List.{List}
+use lib.ListN.{length, drop}
+use Rattle.event.specs.Writing.{rowsIn}
+use Rattle.event.proofs.RowsIn.{rows-count}
+use Rattle.event.proofs.Turns.{begin}
+use Rattle.rcnp_layout.specs.Writing.{atSum}
+use Rattle.rcnp_writer.proofs.Regions.{Regions, regions-done, region-refused, region-within, region-taken}
+use borrow.Author.Needs.{needs}
 use Rattle.rcnp_writer.proofs.whole.write_regions.Statement.{statement}
 use Rattle.rcnp_writer.proofs.whole.write_regions.Tie as tie
-use Rattle.rcnp_writer.proofs.whole.write_regions.Reads as reads
-use Rattle.rcnp_writer.proofs.whole.write_regions.Lts as lts
-use Rattle.event.proofs.words.part_start.Reads as part-start-reads
-use Rattle.rcnp_writer.proofs.region.write_region.Reads as write-region-reads
-use Rattle.rcnp_writer.proofs.whole.before_sum.Reads as before-sum-reads
 
 abbrev Inv-loop : tie.InvT-loop
-Inv-loop rows words₀ i₀ at₀ words i at = ?
+Inv-loop rows words₀ i₀ at₀ words i at = Regions (rowsIn rows) words₀ i at words
 
 abbrev μ-loop : tie.MeasureT-loop
-μ-loop rows words₀ i₀ at₀ words i at = ?
+μ-loop rows words₀ i₀ at₀ words i at = length (rowsIn rows) - i
 
--- src/whole.rt:45:5
-loop-holds : tie.Need-loop-holds Inv-loop μ-loop
-loop-holds c = ?
+-- A turn: no check sum stands there.
+module _ (t : tie.Then1 Inv-loop μ-loop) where
+  abbrev head : tie.At-loop Inv-loop μ-loop
+  head = t .before .before
 
--- src/whole.rt:45:11
-before-sum-requires : tie.Need-before-sum-requires Inv-loop μ-loop
-before-sum-requires c κs = ?
+  abbrev elements : List ℕ
+  elements = head .before .before .before .args .rows .now
 
--- src/whole.rt:46:13
-part-start-requires : tie.Need-part-start-requires Inv-loop μ-loop
-part-start-requires c κs = ?
+  going : true ≡ not (atSum (drop (head .loop .i) (rowsIn elements)))
+  going = sym (t .if1 .taken) ∙ t .before .before-sum .ensures
 
--- src/whole.rt:47:45
-mul-write-region : tie.Need-mul-write-region Inv-loop μ-loop
-mul-write-region c = ?
+-- Where the region's part starts.
+fits : (p : tie.After-part-start Inv-loop μ-loop) → p .part-start .result ≤ length (head (p .before) .loop .words)
+fits p = let l = head (p .before) .loop in omega (arith, p .part-start .ensures, min-le-right (l .at) (length (l .words)))
 
--- src/whole.rt:47:45
-sub-write-region : tie.Need-sub-write-region Inv-loop μ-loop
-sub-write-region c = ?
+-- The region came back.
+module _ (m : tie.After-slice-known2 Inv-loop μ-loop) where
+  abbrev region-written : tie.After-write-region Inv-loop μ-loop
+  region-written = m .before .before
 
--- src/whole.rt:47:45
-part-write-region-start : tie.Need-part-write-region-start Inv-loop μ-loop
-part-write-region-start c = ?
+  abbrev started : tie.After-part-start Inv-loop μ-loop
+  started = region-written .before .before
 
--- src/whole.rt:47:45
-part-write-region-end : tie.Need-part-write-region-end Inv-loop μ-loop
-part-write-region-end c = ?
+  abbrev turn : tie.Then1 Inv-loop μ-loop
+  turn = started .before
 
--- src/whole.rt:47:13
-write-region-requires : tie.Need-write-region-requires Inv-loop μ-loop
-write-region-requires c κs = ?
-
--- src/whole.rt:48:26
-enum-known-written : tie.Need-enum-known-written Inv-loop μ-loop
-enum-known-written c = ?
-
--- src/whole.rt:49:13
-enum-told : tie.Need-enum-told Inv-loop μ-loop
-enum-told c = ?
-
--- src/whole.rt:49:13
-same-length : tie.Need-same-length Inv-loop μ-loop
-same-length c = ?
-
--- src/whole.rt:49:13
 returns : tie.Need-returns Inv-loop μ-loop
-returns c = ?
+returns c =
+    let m = c .before .before in
+    region-refused (head (turn m) .loop .inv) (going (turn m)) (started m .part-start .ensures) refl (region-written m .write-region .ensures) _ (c .enum-told .given .1) (c .enum-told .given .1)
 
--- src/whole.rt:51:9
-add-at : tie.Need-add-at Inv-loop μ-loop
-add-at c = ?
+-- It was taken.
+module _ (c : tie.After-known-told Inv-loop μ-loop) where
+  abbrev back : tie.After-slice-known2 Inv-loop μ-loop
+  back = c .before .before .before
 
--- src/whole.rt:45:5
-loop-less : tie.Need-loop-less Inv-loop μ-loop
-loop-less c = ?
+  abbrev next : ℕ
+  next = c .before .written .given .0 .0
 
--- src/whole.rt:45:5
+  abbrev count : ℕ
+  count = c .before .written .given .0 .1 .0
+
+  within : let t = turn back in (next ≤ length (rowsIn (elements t))) × (head t .loop .i < next) × (head t .loop .at + count ≤ 4 * next)
+  within =
+      let t = turn back in
+      region-within (head t .loop .inv) (going t) (started back .part-start .ensures) refl (region-written back .write-region .ensures) (c .before .written .given .1)
+
 loop-again : tie.Need-loop-again Inv-loop μ-loop
-loop-again c = ?
-
--- src/whole.rt:40:1
-same-length-2 : tie.Need-same-length-2 Inv-loop μ-loop
-same-length-2 c = ?
-
--- src/whole.rt:40:1
-returns-2 : tie.Need-returns-2 Inv-loop μ-loop
-returns-2 c = ?
+loop-again c =
+    let m = back c in
+    region-taken (head (turn m) .loop .inv) (going (turn m)) (started m .part-start .ensures) refl (region-written m .write-region .ensures) (c .before .written .given .1) refl
 
 pub write-regions-spec : {M : Type 1} → statement M
 write-regions-spec =
@@ -86,20 +79,20 @@ write-regions-spec =
     (tie.spec
     Inv-loop
     μ-loop
-    loop-holds
-    before-sum-requires
-    part-start-requires
-    mul-write-region
-    sub-write-region
-    part-write-region-start
-    part-write-region-end
-    write-region-requires
-    enum-known-written
-    enum-told
-    same-length
+    (λ c. begin tt (omega arith) (omega arith))
+    (λ c κs. search needs)
+    (λ c κs. search needs)
+    (λ c. omega (arith, fits c))
+    (λ c. omega (arith, fits c))
+    (λ c. omega (arith, fits c))
+    (λ c. search needs)
+    (λ c κs. head (c .before .before) .loop .inv .inside)
+    (λ c. search needs)
+    (λ c. search needs)
+    (λ c. search needs)
     returns
-    add-at
-    loop-less
+    (λ c. omega (arith, within c, rows-count (elements (turn (back c)))))
+    (λ c. omega (arith, within c))
     loop-again
-    same-length-2
-    returns-2)
+    (λ c. c .before .before .loop .inv .same)
+    (λ c. regions-done (c .before .before .loop .inv) (sym (c .if1 .left) ∙ c .before .before-sum .ensures)))
