@@ -3,3 +3,5 @@ pub mod RowRules
 pub mod Contents
 pub mod OneRegion
 pub mod Regions
+pub mod CheckSum
+pub mod Event

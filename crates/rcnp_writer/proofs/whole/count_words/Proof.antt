@@ -1,57 +1,52 @@
+-- `whole::count_words` meets its contract. Assumes nothing.
+use native.Mathlib.Omega.{arith}
+use Prim.Native.Nat.{ℕ}
+use mathlib.Core.List.{List}
+use Rattle.event.specs.Parser.{finish}
+use Rattle.event.specs.Writing.{rowsIn}
+use Rattle.event.proofs.Leads.{Taken}
+use Rattle.event.proofs.RowsIn.{rows-count}
+use Rattle.rcnp_layout.specs.Layout.{words}
+use Rattle.rcnp_layout.specs.Writing.{partsWith}
+use Rattle.rcnp_writer.proofs.Event.{count-refused, count-taken, last-row, sum-wrong, sum-right}
 use borrow.Author.Needs.{needs}
 use Rattle.rcnp_writer.proofs.whole.count_words.Statement.{statement}
 use Rattle.rcnp_writer.proofs.whole.count_words.Tie as tie
-use Rattle.rcnp_writer.proofs.whole.count_words.Reads as reads
-use Rattle.rcnp_writer.proofs.whole.count_words.Lts as lts
-use Rattle.rcnp_writer.proofs.sum.row_sum.Reads as row-sum-reads
-use Rattle.rcnp_writer.proofs.whole.write_event.Reads as write-event-reads
 
--- src/whole.rt:105:37
-slice-aggregate-write-event : tie.Need-slice-aggregate-write-event
-slice-aggregate-write-event c = search needs
-
--- src/whole.rt:105:9
-write-event-requires : tie.Need-write-event-requires
-write-event-requires c κs = search needs
-
--- src/whole.rt:106:26
-enum-known-counted : tie.Need-enum-known-counted
-enum-known-counted c = search needs
-
--- src/whole.rt:107:9
-enum-told : tie.Need-enum-told
-enum-told c = search needs
-
--- src/whole.rt:107:9
 returns : tie.Need-returns
-returns c = ?
+returns c =
+    let w = c .before .before .before in
+    count-refused (rowsIn (w .before .before .before .args .rows .now)) (w .write-event .ensures) (c .enum-told .given .1)
 
--- src/whole.rt:109:8
-row-sum-requires : tie.Need-row-sum-requires
-row-sum-requires c κs = search needs
+-- The parts were counted, and the rows summed.
+module _ (s : tie.After-row-sum) where
+  abbrev counted : tie.After-counted
+  counted = s .before .before
 
--- src/whole.rt:112:20
-sub-t11 : tie.Need-sub-t11
-sub-t11 c = ?
+  abbrev pass : tie.After-write-event
+  pass = counted .before .before .before
 
--- src/whole.rt:110:9
+  abbrev elements : List ℕ
+  elements = pass .before .before .before .args .rows .now
+
+  taken : Taken words (partsWith (finish 21) 0 (rowsIn elements)) (counted .counted .given .0 .0)
+  taken = count-taken (rowsIn elements) (pass .write-event .ensures) (counted .counted .given .1)
+
 returns-2 : tie.Need-returns-2
-returns-2 c = ?
-
--- src/whole.rt:101:1
-returns-3 : tie.Need-returns-3
-returns-3 c = ?
+returns-2 c =
+    let s = c .before in
+    rw (← rows-count (elements s)) (sum-wrong (rowsIn (elements s)) (taken s) (s .row-sum .ensures) (c .if1 .taken))
 
 pub count-words-spec : {M : Type 1} → statement M
 count-words-spec =
     tie.close
     (tie.spec
-    slice-aggregate-write-event
-    write-event-requires
-    enum-known-counted
-    enum-told
+    (λ c. search needs)
+    (λ c κs. search needs)
+    (λ c. search needs)
+    (λ c. search needs)
     returns
-    row-sum-requires
-    sub-t11
+    (λ c κs. search needs)
+    (λ c. let s = c .before in omega (arith, last-row (rowsIn (elements s)) (taken s) (s .row-sum .ensures), rows-count (elements s)))
     returns-2
-    returns-3)
+    (λ c. let s = c .before in sum-right (rowsIn (elements s)) (taken s) (s .row-sum .ensures) (c .if1 .left)))

@@ -1,121 +1,120 @@
+-- `whole::write_check_sum` meets its contract. Assumes nothing.
+use Prim.Native.Nat.{ℕ, _+_, _/_, _≤_}
+use native.Mathlib.Omega.{arith}
+use mathlib.Core.Path.{_≡_, sym, _∙_}
+use mathlib.Core.List.{List}
+use lib.ListN.{length}
+use Rattle.event.specs.declared.Row.{Row}
+use Rattle.event.specs.Writing.{rowsIn}
+use Rattle.event.proofs.RowsIn.{rows-count}
+use Rattle.rcnp_writer.specs.Faults.{sumFault, datumFault}
+use Rattle.rcnp_writer.proofs.CheckSum.{own-refused, own-there, sum-refused, word-there, followed, sum-written}
 use borrow.Author.Needs.{needs}
 use Rattle.rcnp_writer.proofs.whole.write_check_sum.Statement.{statement}
 use Rattle.rcnp_writer.proofs.whole.write_check_sum.Tie as tie
-use Rattle.rcnp_writer.proofs.whole.write_check_sum.Reads as reads
-use Rattle.rcnp_writer.proofs.whole.write_check_sum.Lts as lts
-use Rattle.event.proofs.refuse_part.Reads as refuse-part-reads
-use Rattle.event.proofs.rows.row_at.Reads as row-at-reads
-use Rattle.event.proofs.words.store_word16.Reads as store-word16-reads
-use Rattle.rcnp_writer.proofs.fault.datum_fault.Reads as datum-fault-reads
-use Rattle.rcnp_writer.proofs.fault.sum_fault.Reads as sum-fault-reads
-use Rattle.rcnp_writer.proofs.word.header_word.Reads as header-word-reads
 
--- src/whole.rt:62:28
-row-at-requires : tie.Need-row-at-requires
-row-at-requires c κs = search needs
+-- The region's own row was judged.
+module _ (d : tie.After-sum-fault) where
+  abbrev entry : tie.Start
+  entry = d .before .before .before .before
 
--- src/whole.rt:62:9
-sum-fault-requires : tie.Need-sum-fault-requires
-sum-fault-requires c κs = search needs
+  abbrev elements : List ℕ
+  elements = entry .args .rows .now
 
--- src/whole.rt:64:9
-refuse-part-requires : tie.Need-refuse-part-requires
-refuse-part-requires c κs = search needs
+  abbrev rowsGiven : List Row
+  rowsGiven = rowsIn elements
 
--- src/whole.rt:64:9
+  abbrev lent : List ℕ
+  lent = entry .args .words .now
+
 returns : tie.Need-returns
-returns c = ?
+returns c =
+    let d = c .before .before in
+    own-refused (rowsGiven d) (entry d .args .at) (lent d) (d .before .row-at .ensures) _ (d .sum-fault .ensures) (c .before .if1 .taken) (c .refuse-part .ensures)
 
--- src/whole.rt:66:28
-add-row-at : tie.Need-add-row-at
-add-row-at c = ?
+-- It was taken.
+module _ (t : tie.Else1) where
+  right : 0 ≡ sumFault (t .before .before .row-at .result)
+  right = sym (t .if1 .left) ∙ t .before .sum-fault .ensures
 
--- src/whole.rt:66:9
-row-at-requires-2 : tie.Need-row-at-requires-2
-row-at-requires-2 c κs = search needs
+  own : entry (t .before) .args .at + 1 ≤ length (elements (t .before)) / 4
+  own = let d = t .before in omega (arith, own-there (rowsGiven d) (entry d .args .at) (lent d) (d .before .row-at .ensures) right, rows-count (elements d))
 
--- src/whole.rt:67:9
-datum-fault-requires : tie.Need-datum-fault-requires
-datum-fault-requires c κs = search needs
+-- The row of the sum was judged.
+abbrev own-taken : tie.After-datum-fault → tie.Else1
+own-taken d = d .before .before
 
--- src/whole.rt:69:36
-add-refuse-part : tie.Need-add-refuse-part
-add-refuse-part c = ?
-
--- src/whole.rt:69:9
-refuse-part-requires-2 : tie.Need-refuse-part-requires-2
-refuse-part-requires-2 c κs = search needs
-
--- src/whole.rt:69:9
 returns-2 : tie.Need-returns-2
-returns-2 c = ?
+returns-2 c =
+    let w = c .before .before in
+    let t = own-taken w in
+    let d = t .before in
+    sum-refused (rowsGiven d) (entry d .args .at) (lent d) (d .before .row-at .ensures) (right t)
+    (w .before .row-at2 .ensures) _ (w .datum-fault .ensures) (c .before .if2 .taken) (c .refuse-part2 .ensures)
 
--- src/whole.rt:71:8
-add-if3 : tie.Need-add-if3
-add-if3 c = ?
+-- It was taken too.
+module _ (c : tie.Else2) where
+  abbrev first : tie.Else1
+  first = own-taken (c .before)
 
--- src/whole.rt:72:43
-add-refuse-part-2 : tie.Need-add-refuse-part-2
-add-refuse-part-2 c = search needs
+  abbrev start : tie.After-sum-fault
+  start = first .before
 
--- src/whole.rt:72:9
-refuse-part-requires-3 : tie.Need-refuse-part-requires-3
-refuse-part-requires-3 c κs = search needs
+  right-too : 0 ≡ datumFault 33 0 65536 (c .before .before .row-at2 .result)
+  right-too = sym (c .if2 .left) ∙ c .before .datum-fault .ensures
 
--- src/whole.rt:72:9
+  both-rows : entry start .args .at + 2 ≤ length (elements start) / 4
+  both-rows =
+      let h = word-there (rowsGiven start) (entry start .args .at) (lent start) (start .before .row-at .ensures) (right first) (c .before .before .row-at2 .ensures) right-too in
+      omega (arith, rows-count (elements start))
+
 returns-3 : tie.Need-returns-3
-returns-3 c = ?
+returns-3 c =
+    let e = c .before .before in
+    let d = start e in
+    followed (rowsGiven d) (entry d .args .at) (lent d) (d .before .row-at .ensures) (right (first e)) (e .before .before .row-at2 .ensures) (right-too e)
+    _ (omega (arith, c .before .if3 .taken, rows-count (elements d))) (c .refuse-part3 .ensures)
 
--- src/whole.rt:74:28
-header-word-requires : tie.Need-header-word-requires
-header-word-requires c κs = search needs
+-- Both words were stored, and no row is left.
+module _ (c : tie.After-slice-known3) where
+  abbrev second : tie.After-store-word162
+  second = c .before .before
 
--- src/whole.rt:74:5
-store-word16-requires : tie.Need-store-word16-requires
-store-word16-requires c κs = search needs
+  abbrev stored : tie.After-store-word16
+  stored = second .before .before .before .before .before
 
--- src/whole.rt:75:28
-cast-store-word16 : tie.Need-cast-store-word16
-cast-store-word16 c = search needs
+  abbrev over : tie.Else3
+  over = stored .before .before .before
 
--- src/whole.rt:75:5
-store-word16-requires-2 : tie.Need-store-word16-requires-2
-store-word16-requires-2 c κs = search needs
-
--- src/whole.rt:77:15
-add-t9 : tie.Need-add-t9
-add-t9 c = ?
-
--- src/whole.rt:58:1
-same-length : tie.Need-same-length
-same-length c = search needs
-
--- src/whole.rt:58:1
 returns-4 : tie.Need-returns-4
-returns-4 c = ?
+returns-4 c =
+    let e = over c .before in
+    let d = start e in
+    sum-written (rowsGiven d) (entry d .args .at) (lent d) (d .before .row-at .ensures) (right (first e)) (e .before .before .row-at2 .ensures) (right-too e)
+    (omega (arith, over c .if3 .left, rows-count (elements d))) (stored c .before .header-word .ensures) (stored c .store-word16 .ensures) (second c .store-word162 .ensures)
 
 pub write-check-sum-spec : {M : Type 1} → statement M
 write-check-sum-spec =
     tie.close
     (tie.spec
-    row-at-requires
-    sum-fault-requires
-    refuse-part-requires
+    (λ c κs. search needs)
+    (λ c κs. search needs)
+    (λ c κs. search needs)
     returns
-    add-row-at
-    row-at-requires-2
-    datum-fault-requires
-    add-refuse-part
-    refuse-part-requires-2
+    (λ c. omega (arith, own c))
+    (λ c κs. search needs)
+    (λ c κs. search needs)
+    (λ c. omega (arith, own (own-taken (c .before))))
+    (λ c κs. search needs)
     returns-2
-    add-if3
-    add-refuse-part-2
-    refuse-part-requires-3
+    (λ c. omega (arith, both-rows c))
+    (λ c. search needs)
+    (λ c κs. search needs)
     returns-3
-    header-word-requires
-    store-word16-requires
-    cast-store-word16
-    store-word16-requires-2
-    add-t9
-    same-length
+    (λ c κs. search needs)
+    (λ c κs. search needs)
+    (λ c. search needs)
+    (λ c κs. search needs)
+    (λ c. omega (arith, both-rows (over c .before)))
+    (λ c. search needs)
     returns-4)

@@ -1,103 +1,72 @@
+-- `whole::write_event` meets its contract. Assumes nothing.
+use native.Mathlib.Omega.{arith}
+use mathlib.Core.Path.{refl}
+use mathlib.Core.List.{List}
+use Rattle.event.specs.Writing.{rowsIn}
+use Rattle.event.proofs.RowsIn.{rows-count}
+use Rattle.rcnp_writer.proofs.Event.{regions-refused, sum-there, last-refused, event-few, event-laid}
 use borrow.Author.Needs.{needs}
 use Rattle.rcnp_writer.proofs.whole.write_event.Statement.{statement}
 use Rattle.rcnp_writer.proofs.whole.write_event.Tie as tie
-use Rattle.rcnp_writer.proofs.whole.write_event.Reads as reads
-use Rattle.rcnp_writer.proofs.whole.write_event.Lts as lts
-use Rattle.event.proofs.words.part_start.Reads as part-start-reads
-use Rattle.rcnp_writer.proofs.whole.write_check_sum.Reads as write-check-sum-reads
-use Rattle.rcnp_writer.proofs.whole.write_regions.Reads as write-regions-reads
 
--- src/whole.rt:86:9
-write-regions-requires : tie.Need-write-regions-requires
-write-regions-requires c κs = search needs
-
--- src/whole.rt:88:25
-enum-known-regions : tie.Need-enum-known-regions
-enum-known-regions c = search needs
-
--- src/whole.rt:89:22
-enum-known-regions-2 : tie.Need-enum-known-regions-2
-enum-known-regions-2 c = search needs
-
--- src/whole.rt:90:17
-part-start-requires : tie.Need-part-start-requires
-part-start-requires c κs = search needs
-
--- src/whole.rt:91:52
-mul-write-check-sum : tie.Need-mul-write-check-sum
-mul-write-check-sum c = search needs
-
--- src/whole.rt:91:52
-sub-write-check-sum : tie.Need-sub-write-check-sum
-sub-write-check-sum c = search needs
-
--- src/whole.rt:91:52
-part-write-check-sum-start : tie.Need-part-write-check-sum-start
-part-write-check-sum-start c = search needs
-
--- src/whole.rt:91:52
-part-write-check-sum-end : tie.Need-part-write-check-sum-end
-part-write-check-sum-end c = search needs
-
--- src/whole.rt:91:17
-write-check-sum-requires : tie.Need-write-check-sum-requires
-write-check-sum-requires c κs = ?
-
--- src/whole.rt:93:33
-enum-known-last : tie.Need-enum-known-last
-enum-known-last c = search needs
-
--- src/whole.rt:94:46
-enum-known-last-2 : tie.Need-enum-known-last-2
-enum-known-last-2 c = search needs
-
--- src/whole.rt:94:73
-add-t22 : tie.Need-add-t22
-add-t22 c = ?
-
--- src/whole.rt:83:1
-same-length : tie.Need-same-length
-same-length c = search needs
-
--- src/whole.rt:83:1
 returns : tie.Need-returns
-returns c = ?
+returns c = regions-refused (c .before .before .before .before .before .write-regions .ensures) _ (c .before .regions .given .1)
 
--- src/whole.rt:83:1
-same-length-2 : tie.Need-same-length-2
-same-length-2 c = search needs
+-- The regions were written.
+abbrev regions-written : tie.After-regions2 → tie.After-write-regions
+regions-written m = m .before .before .before .before
 
--- src/whole.rt:83:1
+-- The check sum region came back.
+module _ (m : tie.After-slice-known3) where
+  abbrev sum-written : tie.After-write-check-sum
+  sum-written = m .before .before
+
+  abbrev sum-start : tie.After-part-start
+  sum-start = sum-written .before .before
+
+  abbrev regions-done : tie.After-regions2
+  regions-done = sum-start .before .before
+
 returns-2 : tie.Need-returns-2
-returns-2 c = ?
+returns-2 c =
+    let m = c .before .before .before in
+    let r = regions-done m in
+    last-refused (regions-written r .write-regions .ensures) (r .regions2 .given .1) (sum-start m .part-start .ensures) refl (sum-written m .write-check-sum .ensures) _ (c .before .last .given .1)
 
--- src/whole.rt:83:1
-same-length-3 : tie.Need-same-length-3
-same-length-3 c = search needs
+add-count : tie.Need-add-t22
+add-count c =
+    let m = c .before .before .before in
+    let r = regions-done m in
+    let w = regions-written r in
+    let h = event-few (w .write-regions .ensures) (r .regions2 .given .1) (sum-start m .part-start .ensures) refl (sum-written m .write-check-sum .ensures) (c .before .last2 .given .1) in
+    omega (arith, h, rows-count (w .before .before .before .before .args .rows .now))
 
--- src/whole.rt:83:1
 returns-3 : tie.Need-returns-3
-returns-3 c = ?
+returns-3 c =
+    let m = c .before .before .before in
+    let r = regions-done m in
+    event-laid (regions-written r .write-regions .ensures) (r .regions2 .given .1) (sum-start m .part-start .ensures) refl
+    (sum-written m .write-check-sum .ensures) (c .before .last2 .given .1) refl
 
 pub write-event-spec : {M : Type 1} → statement M
 write-event-spec =
     tie.close
     (tie.spec
-    write-regions-requires
-    enum-known-regions
-    enum-known-regions-2
-    part-start-requires
-    mul-write-check-sum
-    sub-write-check-sum
-    part-write-check-sum-start
-    part-write-check-sum-end
-    write-check-sum-requires
-    enum-known-last
-    enum-known-last-2
-    add-t22
-    same-length
+    (λ c κs. search needs)
+    (λ c. search needs)
+    (λ c. search needs)
+    (λ c κs. search needs)
+    (λ c. search needs)
+    (λ c. search needs)
+    (λ c. search needs)
+    (λ c. search needs)
+    (λ c κs. let r = c .before .before .before in sum-there (regions-written r .write-regions .ensures) (r .regions2 .given .1) .0)
+    (λ c. search needs)
+    (λ c. search needs)
+    add-count
+    (λ c. search needs)
     returns
-    same-length-2
+    (λ c. search needs)
     returns-2
-    same-length-3
+    (λ c. search needs)
     returns-3)
