@@ -16,6 +16,8 @@ use Rattle.event.specs.declared.Part.the-variants.{Done, Refused}
 use Rattle.event.specs.declared.Row.{Row}
 use Rattle.event.specs.Parser.{Result, ok, refuse, Parser, then, _>>=_, _>>_, give, finish, lastly, several, each}
 use Rattle.event.specs.Words.{storeWord}
+use Rattle.event.specs.Outcome.{inWordRoom}
+use Rattle.event.specs.Writing.{rowsIn}
 use Rattle.event.specs.Demands.{InWidth}
 use Rattle.event.specs.Scanning.{storeWords, ScannedBy, writingAll, Writes}
 use Rattle.event.proofs.Codes.{nil, codes-finish}
@@ -23,12 +25,13 @@ use Rattle.event.proofs.Elements.{codes-several}
 use Rattle.event.proofs.Ends.{placed}
 use Rattle.event.proofs.Impossible.{impossible}
 use Rattle.event.proofs.Leads.{Taken, store-append, scanned-refuse, refused-scan, accepted-scan}
+use Rattle.event.proofs.Stores.{Gives, write-refused}
 use Rattle.event.proofs.Turns.{lastly-holds, lastly-fails, lastly-taken}
 use Rattle.event.proofs.WordStores.{part-written, past-the-end}
 use Rattle.event.proofs.WritingTurns.{Wrote, wrote, unwritten}
 use Rattle.rcnp_layout.specs.Event.{Region, Event}
 use Rattle.rcnp_layout.specs.Layout.{regionWords, sumWords, words, total, summed, regionRows, sumRows, rows, largestEvent}
-use Rattle.rcnp_layout.specs.Writing.{region, sumRegion, atSum, partsWith}
+use Rattle.rcnp_layout.specs.Writing.{region, sumRegion, atSum, partsWith, writing}
 use Rattle.rcnp_layout.proofs.Event.{ends-parts}
 use Rattle.rcnp_layout.proofs.Rows.{codes-region, codes-sum, codes-parts, codes-one}
 use Rattle.rcnp_layout.proofs.Sizes.{not-sum}
@@ -142,10 +145,19 @@ module _ (rs : List Row) where
         lastly-holds summed 22 parts 0 rs (rw (t .parsed) (record { answered = ap answer.Accepted c; stored = sym (past-the-end 16 ws [] 0 (omega arith)) }))
         (λ e j r p. taken-sum p .0 ∙ eq-eqb (total (each rowWords rs) % 65536) 0 (sym m ∙ z))
 
-  -- the words of what was counted
+  -- what was counted
+  pub counted-taken : {result : Answer} {k : ℕ} → Counted result → result ≡ answer.Accepted k → Taken words (lastly summed 22 parts 0 rs) k
+  counted-taken s e = accepted-scan words (lastly summed 22 parts 0 rs) (rw e at s)
+
+  -- its words
   pub event-written : {k : ℕ} → Taken words (lastly summed 22 parts 0 rs) k → {b after : List ℕ} {r : Answer} → ScannedBy (writingAll 16) words (parts 0 rs) 0 b r after
       → ScannedBy (writingAll 16) words (lastly summed 22 parts 0 rs) 0 b r after
   event-written t s = rw (t .parsed) (rw (lastly-taken summed 22 parts 0 rs (t .parsed) .0) at s)
 
   pub event-fits : (e : Event) (j : ℕ) (r : List Row) → lastly summed 22 parts 0 rs ≡ ok e j r → length (words e) ≤ largestEvent → InWidth 16 (words e)
   event-fits e j r p l = words-fit e (record { formed = codes-one .sound 0 rs e j r p .0; size = l })
+
+-- what was refused
+pub counted-refused : (xs buffer : List ℕ) → length xs % 4 ≡ 0 → {result : Answer} {n p : ℕ} → Counted (rowsIn xs) result → result ≡ answer.Refused n p
+    → Gives (λ ws. ws) buffer (inWordRoom (length buffer) (writing xs)) result buffer
+counted-refused xs buffer four s e = rw e (write-refused 16 largestEvent words (lastly summed 22 parts) xs buffer four (rw e at s))

@@ -91,7 +91,10 @@ pub(crate) fn write_event(rows: &[u32], words: &mut [u16]) -> Answer
             let last = write_check_sum(rows, next, &mut words[start..]);
             match last {
                 Part::Refused { number, place } => Answer::Refused { number, place },
-                Part::Done { next: _, count: more } => Answer::Accepted(count + more),
+                Part::Done {
+                    next: _,
+                    count: more,
+                } => Answer::Accepted(count + more),
             }
         }
     }

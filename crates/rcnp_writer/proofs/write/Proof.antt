@@ -1,62 +1,102 @@
+-- `write` meets its contract. Assumes nothing.
+use Prim.Native.Nat.{ℕ}
+use mathlib.Core.List.{List}
+use Rattle.event.specs.declared.Row.{Row}
+use Rattle.event.specs.Parser.{Parser, finish, lastly}
+use Rattle.event.specs.Writing.{rowsIn}
+use Rattle.event.proofs.Leads.{Taken}
+use Rattle.event.proofs.Stores.{write-uneven, write-refused, write-large, write-crowded, write-fits}
+use Rattle.rcnp_layout.specs.Event.{Event}
+use Rattle.rcnp_layout.specs.Layout.{words, summed, largestEvent}
+use Rattle.rcnp_layout.specs.Writing.{partsWith}
+use Rattle.rcnp_writer.proofs.Event.{counted-taken, counted-refused, event-written, event-fits}
 use borrow.Author.Needs.{needs}
 use Rattle.rcnp_writer.proofs.write.Statement.{statement}
 use Rattle.rcnp_writer.proofs.write.Tie as tie
-use Rattle.rcnp_writer.proofs.write.Reads as reads
-use Rattle.rcnp_writer.proofs.write.Lts as lts
-use Rattle.rcnp_writer.proofs.whole.count_words.Reads as count-words-reads
-use Rattle.rcnp_writer.proofs.whole.write_event.Reads as write-event-reads
 
--- src/rt:25:9
+abbrev event : Parser Row Event
+event = lastly summed 22 (partsWith (finish 21))
+
 returns : tie.Need-returns
-returns c = ?
+returns c =
+    let s = c .before .before .before in
+    let r = write-uneven 16 largestEvent words event (s .args .rows .now) (s .args .words .now) (c .if1 .taken) in
+    (r .answered, r .written)
 
--- src/rt:30:9
-count-words-requires : tie.Need-count-words-requires
-count-words-requires c κs = search needs
+-- The words were counted.
+module _ (w : tie.After-count-words) where
+  abbrev entry : tie.Start
+  entry = w .before .before .before .before
 
--- src/rt:31:26
-enum-known-counted : tie.Need-enum-known-counted
-enum-known-counted c = search needs
+  abbrev elements : List ℕ
+  elements = entry .args .rows .now
 
--- src/rt:32:9
-enum-told : tie.Need-enum-told
-enum-told c = search needs
+  abbrev lent : List ℕ
+  lent = entry .args .words .now
 
--- src/rt:32:9
 returns-2 : tie.Need-returns-2
-returns-2 c = ?
+returns-2 c =
+    let w = c .before .before in
+    let r = counted-refused (elements w) (lent w) (w .before .if1 .left) (w .count-words .ensures) (c .enum-told .given .1) in
+    (r .answered, r .written)
 
--- src/rt:35:9
+-- There are so many.
+module _ (k : tie.After-known-told) where
+  abbrev told : tie.After-counted
+  told = k .before
+
+  abbrev counted : tie.After-count-words
+  counted = told .before .before
+
+  taken : Taken words (event 0 (rowsIn (elements counted))) (told .counted .given .0 .0)
+  taken = counted-taken (rowsIn (elements counted)) (counted .count-words .ensures) (told .counted .given .1)
+
 returns-3 : tie.Need-returns-3
-returns-3 c = ?
+returns-3 c =
+    let k = c .before in
+    let w = counted k in
+    let r = write-large 16 largestEvent words event (elements w) (lent w) (w .before .if1 .left) (taken k) (c .if2 .taken) in
+    (r .answered, r .written)
 
--- src/rt:41:9
 returns-4 : tie.Need-returns-4
-returns-4 c = ?
+returns-4 c =
+    let small = c .before in
+    let k = small .before in
+    let w = counted k in
+    let r = write-crowded 16 largestEvent words event (elements w) (lent w) (w .before .if1 .left) (taken k) (small .if2 .left) (c .if3 .taken) in
+    (r .answered, r .written)
 
--- src/rt:46:5
-write-event-requires : tie.Need-write-event-requires
-write-event-requires c κs = search needs
+-- They were written.
+module _ (c : tie.After-slice-known2) where
+  abbrev written : tie.After-write-event
+  written = c .before .before
 
--- src/rt:20:1
-same-length : tie.Need-same-length
-same-length c = search needs
+  abbrev fits : tie.Else3
+  fits = written .before .before
 
--- src/rt:20:1
+  abbrev few : tie.Else2
+  few = fits .before
+
 returns-5 : tie.Need-returns-5
-returns-5 c = ?
+returns-5 c =
+    let k = few c .before in
+    let w = counted k in
+    let rs = rowsIn (elements w) in
+    let r = write-fits 16 largestEvent words event (elements w) (lent w) (w .before .if1 .left) (taken k) (few c .if2 .left) (event-fits rs) (fits c .if3 .left)
+    (event-written rs (taken k) (written c .write-event .ensures)) in
+    (r .answered, r .written)
 
 pub write-spec : {M : Type 1} → statement M
 write-spec =
     tie.close
     (tie.spec
     returns
-    count-words-requires
-    enum-known-counted
-    enum-told
+    (λ c κs. search needs)
+    (λ c. search needs)
+    (λ c. search needs)
     returns-2
     returns-3
     returns-4
-    write-event-requires
-    same-length
+    (λ c κs. search needs)
+    (λ c. search needs)
     returns-5)
