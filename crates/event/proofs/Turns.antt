@@ -119,7 +119,8 @@ module _ {X R E A : Type 0} {scan : Scan X R} {itemsOf : A → List X} (holds : 
   lastly-fails a j r e f = rw (e, f) (record { answered = refl; stored = tt })
 
 -- where the rule held, the parts were taken
-pub lastly-taken : {E A : Type 0} (holds : A → Bool) (n : ℕ) (p : Parser E A) (i : ℕ) (s : List E) {a : A} {j : ℕ} {r : List E} → lastly holds n p i s ≡ ok a j r → (p i s ≡ ok a j r) × (holds a ≡ true)
+pub lastly-taken : {E A : Type 0} (holds : A → Bool) (n : ℕ) (p : Parser E A) (i : ℕ) (s : List E) {a : A} {j : ℕ} {r : List E}
+    → lastly holds n p i s ≡ ok a j r → (p i s ≡ ok a j r) × (holds a ≡ true)
 lastly-taken {E} {A} holds n p i s {a} {j} {r} e = go (p i s) e
   where
     go : (x : Result E A) → then (λ a. here >>= λ j. checked holds n (j - 1) a) x ≡ ok a j r → (x ≡ ok a j r) × (holds a ≡ true)

@@ -3,7 +3,7 @@
 use Prim.Native.Nat.{ℕ, _+_, _≤_, _<_}
 use native.Mathlib.Omega.{arith}
 use mathlib.Core.Path.{_≡_, refl, ap, _∙_}
-use mathlib.Core.List.{List, [], _∷_}
+use mathlib.Core.List.{List, []}
 use lib.ListN.{length, getD, drop}
 use Rattle.event.specs.declared.Part.{Part}
 use Rattle.event.specs.declared.Part.the-variants.{Done, Refused}
@@ -11,7 +11,7 @@ use Rattle.event.specs.declared.Row.{Row}
 use Rattle.event.specs.Parser.{ok}
 use Rattle.event.specs.Words.{storeWord}
 use Rattle.event.specs.Writing.{ofKind, noRow}
-use Rattle.event.specs.Scanning.{storeWords, Writes}
+use Rattle.event.specs.Scanning.{Writes}
 use Rattle.event.proofs.RowJudged.{rows-from, rows-over, row-taken, row-refused}
 use Rattle.event.proofs.WritingTurns.{writes-refused, writes-done}
 use Rattle.rcnp_layout.specs.Event.{sumId}

@@ -1,6 +1,6 @@
 -- The loops over the rows of a region, one for words as they are, for scalers and for the chamber: what a turn does. Over plain values.
 -- Assumes nothing.
-use Prim.Native.Nat.{ℕ, _+_, _^_, _≤_, _<_}
+use Prim.Native.Nat.{ℕ, _+_, _≤_, _<_}
 use native.Mathlib.Omega.{arith}
 use mathlib.Core.Path.{_≡_, refl, ap, _∙_}
 use mathlib.Core.Bool.{Bool, true, false}
@@ -13,7 +13,7 @@ use Rattle.event.specs.Parser.{times, each, alone}
 use Rattle.event.specs.Words.{wordAlone, storeWord}
 use Rattle.event.specs.Writing.{ofKind, noRow}
 use Rattle.event.specs.Scanning.{storeWords, Writes}
-use Rattle.event.proofs.CountedRows.{CountedTo, counted-begin, counted-done, counted-refused, counted-there, counted-next}
+use Rattle.event.proofs.CountedRows.{CountedTo, counted-done, counted-refused, counted-there, counted-next}
 use Rattle.rcnp_layout.specs.Layout.{scalerWords, vdcWord, wordRow, scalerRow, vdcRow, nextIndex, wordChecks, scalerChecks, vdcChecks, begins}
 use Rattle.rcnp_layout.specs.Writing.{word, scalerAt, vdcOf, vdcStands, vdcValue}
 use Rattle.rcnp_writer.specs.Faults.{datumFault, vdcFault}
@@ -96,4 +96,5 @@ module _ {rs : List Row} {n first k at : ℕ} {b₀ b : List ℕ} {begun : Bool}
     pub vdc-next : {at′ w : ℕ} {b′ : List ℕ} → 0 ≡ vdcFault begun r → at′ ≡ at + 1 → w ≡ vdcWord (vdcOf r) → b′ ≡ storeWord 16 b at w → length b′ ≡ length b
         → Chamber rs n first b₀ true (k + 1) at′ b′
     unfolding vdcFault
-    vdc-next f p w s = counted-next 16 vdcStands vdcOf (λ s. vdcRow) (vdcChecks 22) no-zeros (λ s x. (tt, tt)) h below e (rw (h .reached .holds .1) f) refl p (omega arith) (s ∙ ap (storeWord 16 b at) w)
+    vdc-next f p w s = counted-next 16 vdcStands vdcOf (λ s. vdcRow) (vdcChecks 22) no-zeros (λ s x. (tt, tt)) h below e (rw (h .reached .holds .1) f)
+        refl p (omega arith) (s ∙ ap (storeWord 16 b at) w)

@@ -1,6 +1,6 @@
 -- One region at the front of the words: its header, then its content by its form. Over plain values.
 -- Assumes nothing.
-use Prim.Native.Nat.{ℕ, _+_, _/_, _≤_, _<_}
+use Prim.Native.Nat.{ℕ, _+_, _/_, _<_}
 use native.Mathlib.Omega.{arith}
 use mathlib.Core.Path.{_≡_, refl, sym, ap, _∙_}
 use mathlib.Core.Bool.{false}
@@ -17,7 +17,7 @@ use Rattle.event.specs.Scanning.{Writes}
 use Rattle.event.proofs.Elements.{each-map, each-alone}
 use Rattle.event.proofs.RowJudged.{rows-from, row-taken, row-refused}
 use Rattle.event.proofs.WritingTurns.{writes-part, writes-as, writes-refused}
-use Rattle.rcnp_layout.specs.Event.{Form, inputRegister, scaler, vdc, opaque, Region, idOf, formOf}
+use Rattle.rcnp_layout.specs.Event.{Form, inputRegister, scaler, vdc, opaque, Content, Region, idOf, formOf}
 use Rattle.rcnp_layout.specs.Layout.{headerWord, scalerWords, vdcWord, contentWords, sizeOf, regionWords, regionRow, nextIndex, allowedSize, begins}
 use Rattle.rcnp_layout.specs.Writing.{word, scalerAt, vdcValue, content, headerOf, headerRow, headerChecks, header, region}
 use Rattle.rcnp_layout.proofs.Rows.{codes-region}
@@ -35,10 +35,12 @@ module _ (rs : List Row) (first n : ℕ) where
   abbrev ContentIn : Form → List ℕ → Part → List ℕ → Type 0
   ContentIn f = Writes 16 (contentWords f) (content f n first (drop first rs)) rs 1
 
-  pub scalers-content : (id : ℕ) {b after : List ℕ} {r : Part} → id ≡ 6 → Writes 16 (each scalerWords) (times scalerAt nextIndex (n / 2) 0 first (drop first rs)) rs 1 b r after → ContentIn (formOf id) b r after
+  pub scalers-content : (id : ℕ) {b after : List ℕ} {r : Part} → id ≡ 6
+      → Writes 16 (each scalerWords) (times scalerAt nextIndex (n / 2) 0 first (drop first rs)) rs 1 b r after → ContentIn (formOf id) b r after
   scalers-content id e w = rw e w
 
-  pub chamber-content : (id : ℕ) {b after : List ℕ} {r : Part} → id ≡ 7 → Writes 16 (each vdcWords) (times vdcValue begins n false first (drop first rs)) rs 1 b r after → ContentIn (formOf id) b r after
+  pub chamber-content : (id : ℕ) {b after : List ℕ} {r : Part} → id ≡ 7
+      → Writes 16 (each vdcWords) (times vdcValue begins n false first (drop first rs)) rs 1 b r after → ContentIn (formOf id) b r after
   chamber-content id e w = rw e (writes-as 16 (each vdcWords) (map vdcWord) (times vdcValue begins n false first (drop first rs)) (λ xs j l p. each-map vdcWord xs) w)
 
   abbrev WordsIn : List ℕ → Part → List ℕ → Type 0
@@ -76,12 +78,18 @@ module _ (rs : List Row) (at : ℕ) (b : List ℕ) {r : Row} (e : r ≡ getD rs 
         let x : regionRow (idOf (g .form)) (sizeOf g) ≡ r = cc (s, rows-from rs at (header-taken .0), e) in
         ap (λ (y : Row). headerWord (y .unit) (y .channel) ∷ contentWords (g .form) (g .content)) (sym x)
 
+    -- the words of a region behind this header
+    abbrev headed : Region → List ℕ
+    headed g = headerWord (r .unit) (r .channel) ∷ contentWords (g .form) (g .content)
+
+    abbrev inner : Result Row (Content (formOf (r .unit)))
+    inner = content (formOf (r .unit)) (r .channel) (at + 1) (drop (at + 1) rs)
+
+    parsed : region at (drop at rs) ≡ then (λ c. give (record { form = formOf (r .unit); content = c })) inner
+    parsed = rw (header-taken .1)
+
     pub region-written : {w : ℕ} {b₁ after : List ℕ} {x : Part} → w ≡ headerWord (r .unit) (r .channel) → b₁ ≡ storeWord 16 b 0 w
-        → Writes 16 (contentWords (formOf (r .unit))) (content (formOf (r .unit)) (r .channel) (at + 1) (drop (at + 1) rs)) rs 1 b₁ x after → RegionIn x after
-    region-written {x = x} w q s =
-        let first = headerWord (r .unit) (r .channel) ∷ [] in
-        let inner = content (formOf (r .unit)) (r .channel) (at + 1) (drop (at + 1) rs) in
-        let parsed : region at (drop at rs) ≡ then (λ c. give (record { form = formOf (r .unit); content = c })) inner = rw (header-taken .1) in
-        writes-as 16 (λ (g : Region). headerWord (r .unit) (r .channel) ∷ contentWords (g .form) (g .content)) regionWords (region at (drop at rs)) same-words
-        (rw parsed (writes-part 16 (contentWords (formOf (r .unit))) first inner (λ c. record { form = formOf (r .unit); content = c })
-        (λ (g : Region). headerWord (r .unit) (r .channel) ∷ contentWords (g .form) (g .content)) (λ c. refl) refl (q ∙ ap (storeWord 16 b 0) w) s))
+        → Writes 16 (contentWords (formOf (r .unit))) inner rs 1 b₁ x after → RegionIn x after
+    region-written w q s = writes-as 16 headed regionWords (region at (drop at rs)) same-words
+        (rw parsed (writes-part 16 (contentWords (formOf (r .unit))) (headerWord (r .unit) (r .channel) ∷ []) inner (λ c. record { form = formOf (r .unit); content = c }) headed
+        (λ c. refl {a = headed (record { form = formOf (r .unit); content = c })}) refl (q ∙ ap (storeWord 16 b 0) w) s))

@@ -5,7 +5,7 @@ use Rattle.event.specs.declared.Row.{Row}
 use Rattle.event.specs.Parser.{Parser, finish, lastly}
 use Rattle.event.specs.Writing.{rowsIn}
 use Rattle.event.proofs.Leads.{Taken}
-use Rattle.event.proofs.Stores.{write-uneven, write-refused, write-large, write-crowded, write-fits}
+use Rattle.event.proofs.Stores.{write-uneven, write-large, write-crowded, write-fits}
 use Rattle.rcnp_layout.specs.Event.{Event}
 use Rattle.rcnp_layout.specs.Layout.{words, summed, largestEvent}
 use Rattle.rcnp_layout.specs.Writing.{partsWith}

@@ -60,7 +60,8 @@ loop-again c =
     let e = taken c in
     let t = turn e in
     let w = c .before .before in
-    vdc-next (t .before .loop .inv) (t .loop-test .taken) (e .before .before .row-at .ensures) (right e) (omega arith) (w .before .vdc-word .ensures) (w .store-word16 .ensures) (w .store-word16 .kept .0)
+    vdc-next (t .before .loop .inv) (t .loop-test .taken) (e .before .before .row-at .ensures) (right e)
+    (omega arith) (w .before .vdc-word .ensures) (w .store-word16 .ensures) (w .store-word16 .kept .0)
 
 pub write-chamber-spec : {M : Type 1} → statement M
 write-chamber-spec =

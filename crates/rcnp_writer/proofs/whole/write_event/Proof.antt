@@ -1,8 +1,6 @@
 -- `whole::write_event` meets its contract. Assumes nothing.
 use native.Mathlib.Omega.{arith}
 use mathlib.Core.Path.{refl}
-use mathlib.Core.List.{List}
-use Rattle.event.specs.Writing.{rowsIn}
 use Rattle.event.proofs.RowsIn.{rows-count}
 use Rattle.rcnp_writer.proofs.Event.{regions-refused, sum-there, last-refused, event-few, event-laid}
 use borrow.Author.Needs.{needs}
