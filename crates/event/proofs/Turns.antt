@@ -2,8 +2,8 @@
 -- Assumes nothing.
 use Prim.Native.Nat.{ℕ, suc, _+_, _-_, _≤_, _<_}
 use native.Mathlib.Omega.{arith}
-use mathlib.Core.Path.{_≡_, refl, _∙_}
-use mathlib.Core.Bool.{Bool, true, false}
+use mathlib.Core.Path.{_≡_, refl, ap, sym, _∙_}
+use mathlib.Core.Bool.{Bool, true, false, cond}
 use mathlib.Core.List.{List, [], _∷_, _++_}
 use lib.ListN.{length, getD}
 use lib.Seq.{slice, slice-cons, slice-empty}
@@ -12,6 +12,7 @@ use Rattle.event.specs.declared.Row.{Row}
 use Rattle.event.specs.Parser.{Result, ok, refuse, Parser, ended, then, _>>=_, give, here, checked, lastly, many, each}
 use Rattle.event.specs.Scanning.{Scan, stores, storeRows, ScannedBy, LeadsBy, reading, Scanned}
 use Rattle.event.proofs.Codes.{Codes, any}
+use Rattle.event.proofs.Impossible.{impossible}
 use Rattle.event.proofs.Leads.{leads-part, leads-refl, leads-trans, scanned-refuse, scanned-none}
 use Rattle.event.proofs.Many.{many-step, many-stop}
 
@@ -116,3 +117,16 @@ module _ {X R E A : Type 0} {scan : Scan X R} {itemsOf : A → List X} (holds : 
 
   pub lastly-fails : (a : A) (j : ℕ) (r : List E) → p i s ≡ ok a j r → holds a ≡ false → ScannedBy scan itemsOf (lastly holds n p i s) k before (scan .refused n (j - 1)) after
   lastly-fails a j r e f = rw (e, f) (record { answered = refl; stored = tt })
+
+-- where the rule held, the parts were taken
+pub lastly-taken : {E A : Type 0} (holds : A → Bool) (n : ℕ) (p : Parser E A) (i : ℕ) (s : List E) {a : A} {j : ℕ} {r : List E}
+    → lastly holds n p i s ≡ ok a j r → (p i s ≡ ok a j r) × (holds a ≡ true)
+lastly-taken {E} {A} holds n p i s {a} {j} {r} e = go (p i s) e
+  where
+    go : (x : Result E A) → then (λ a. here >>= λ j. checked holds n (j - 1) a) x ≡ ok a j r → (x ≡ ok a j r) × (holds a ≡ true)
+    go (refuse m q) e = impossible cc
+    go (ok a′ j′ r′) e = told (holds a′) refl e
+      where
+        told : (b : Bool) → holds a′ ≡ b → then (λ u. give a′) (cond b (ok (tt {0}) j′ r′) (refuse n (j′ - 1))) ≡ ok a j r → (ok a′ j′ r′ ≡ ok a j r) × (holds a ≡ true)
+        told true h e = let q : a′ ≡ a = cc in (e, ap holds (sym q) ∙ h)
+        told false h e = impossible cc
