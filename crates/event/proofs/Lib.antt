@@ -28,5 +28,6 @@ pub mod RowFaults
 pub mod RowJudged
 pub mod WritingTurns
 pub mod PartTurns
+pub mod CountedRows
 pub mod Vectors
 pub mod Tables

@@ -3,7 +3,7 @@
 use Prim.Native.Nat.{ℕ, suc, _+_, _-_, _≤_, _<_}
 use native.Mathlib.Numerals.{add-one}
 use native.Mathlib.Omega.{arith}
-use mathlib.Core.Path.{_≡_, refl, ap, _∙_}
+use mathlib.Core.Path.{_≡_, refl, ap, sym, _∙_}
 use mathlib.Core.Bool.{Bool, true, false, cond}
 use mathlib.Core.List.{List, [], _∷_, _++_}
 use lib.ListN.{length, getD}
@@ -132,14 +132,15 @@ module _ {X R E A : Type 0} {scan : Scan X R} {itemsOf : A → List X} (holds : 
   pub lastly-fails : (a : A) (j : ℕ) (r : List E) → p i s ≡ ok a j r → holds a ≡ false → ScannedBy scan itemsOf (lastly holds n p i s) k before (scan .refused n (j - 1)) after
   lastly-fails a j r e f = rw (e, f) (record { answered = refl; stored = tt })
 
--- what is taken so, its parts took
-pub lastly-taken : {E A : Type 0} (holds : A → Bool) (n : ℕ) (p : Parser E A) (i : ℕ) (s : List E) {a : A} {j : ℕ} {r : List E} → lastly holds n p i s ≡ ok a j r → p i s ≡ ok a j r
+-- where the rule held, the parts were taken
+pub lastly-taken : {E A : Type 0} (holds : A → Bool) (n : ℕ) (p : Parser E A) (i : ℕ) (s : List E) {a : A} {j : ℕ} {r : List E}
+    → lastly holds n p i s ≡ ok a j r → (p i s ≡ ok a j r) × (holds a ≡ true)
 lastly-taken {E} {A} holds n p i s {a} {j} {r} e = go (p i s) e
   where
-    kept : (b : A) (k : ℕ) (t : List E) (x : Bool) → then (λ u. give b) (cond x (ok (tt {0}) k t) (refuse n (k - 1))) ≡ ok a j r → ok b k t ≡ ok a j r
-    kept b k t true f = f
-    kept b k t false f = impossible cc
-
-    go : (x : Result E A) → then (λ b. here >>= λ k. checked holds n (k - 1) b) x ≡ ok a j r → x ≡ ok a j r
-    go (ok b k t) f = kept b k t (holds b) f
-    go (refuse m q) f = impossible cc
+    go : (x : Result E A) → then (λ a. here >>= λ j. checked holds n (j - 1) a) x ≡ ok a j r → (x ≡ ok a j r) × (holds a ≡ true)
+    go (refuse m q) e = impossible cc
+    go (ok a′ j′ r′) e = told (holds a′) refl e
+      where
+        told : (b : Bool) → holds a′ ≡ b → then (λ u. give a′) (cond b (ok (tt {0}) j′ r′) (refuse n (j′ - 1))) ≡ ok a j r → (ok a′ j′ r′ ≡ ok a j r) × (holds a ≡ true)
+        told true h e = let q : a′ ≡ a = cc in (e, ap holds (sym q) ∙ h)
+        told false h e = impossible cc

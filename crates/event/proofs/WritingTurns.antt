@@ -52,7 +52,7 @@ no-longer : (b : Bool) → false ≡ not b → b ≡ true
 no-longer true e = refl
 no-longer false e = e
 
-still : (b : Bool) → true ≡ not b → b ≡ false
+pub still : (b : Bool) → true ≡ not b → b ≡ false
 still true e = e
 still false e = refl
 
@@ -105,11 +105,15 @@ module _ (width : ℕ) {A : Type 0} (f : A → List ℕ) where
     within = s .within;
   }
 
-  -- words said in another way
-  pub writes-as : (g : A → List ℕ) (x : Result Row A) {rs : List Row} {k : ℕ} {b after : List ℕ} {r : Part} → ((a : A) → f a ≡ g a) → Writes width f x rs k b r after → Writes width g x rs k b r after
+  -- words said in another way, of what was parsed
+  pub writes-as : (g : A → List ℕ) (x : Result Row A) {rs : List Row} {k : ℕ} {b after : List ℕ} {r : Part} → ((a : A) (j : ℕ) (l : List Row) → x ≡ ok a j l → f a ≡ g a)
+      → Writes width f x rs k b r after → Writes width g x rs k b r after
   writes-as g (refuse n p) e s = record { scanned = record { answered = s .scanned .answered; stored = tt }; within = s .within }
   writes-as g (ok a j l) {k = k} {b = b} e s = record {
-    scanned = record { answered = s .scanned .answered ∙ ap (λ (l : List ℕ). Done j (k + length l)) (e a); stored = s .scanned .stored ∙ ap (storeWords width b k) (e a) };
+    scanned = record {
+      answered = s .scanned .answered ∙ ap (λ (l : List ℕ). Done j (k + length l)) (e a j l refl);
+      stored = s .scanned .stored ∙ ap (storeWords width b k) (e a j l refl);
+    };
     within = s .within;
   }
 

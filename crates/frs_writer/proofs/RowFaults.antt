@@ -11,9 +11,9 @@ use Rattle.event.specs.declared.Row.{Row}
 use Rattle.event.specs.Parser.{test, faultIn}
 use Rattle.event.specs.Channels.{Blocked}
 use Rattle.event.specs.Writing.{sameRow, rowTests, ofKind}
-use Rattle.event.proofs.RowFaults.{one-fails, Judged, judged}
+use Rattle.event.proofs.RowFaults.{one-fails, Judged, judged, datum-judged}
 use Rattle.frs_layout.specs.Event.{scalerGeo, patternGeo}
-use Rattle.frs_layout.specs.Layout.{datumBits, stampRow, scalerBlockRow, scalerRow, patternRow, valueRow, stampChecks, countChecks, scalerChecks, patternChecks, geoChecks, valueChecks}
+use Rattle.frs_layout.specs.Layout.{datumBits, stampRow, scalerBlockRow, patternRow, valueRow, stampChecks, countChecks, patternChecks, geoChecks, valueChecks}
 use Rattle.frs_layout.specs.Writing.{stampOf, patternOf, valueOf}
 use Rattle.frs_writer.specs.Faults.{stampFault, blockFault, scalerFault, patternFault, geoFault, valueFieldFault, valueFault}
 use Rattle.frs_writer.proofs.Faults.{found-first, seen-last}
@@ -39,7 +39,7 @@ ScalerKeeps index r = (r .unit ≡ scalerGeo) × (r .channel ≡ index) × (r .d
 
 pub scaler-judged : (index : ℕ) (r : Row) → Judged (scalerFault index r) (r .kind) 18 (ScalerKeeps index r)
 unfolding scalerFault
-scaler-judged index r = judged 18 (λ r. r .datum) (scalerRow index) (scalerChecks 22) r (refl, tt) (λ p. omega tests) (λ e f. ((e, f .0, f .1, refl), omega tests))
+scaler-judged index r = datum-judged 18 scalerGeo index (2 ^ 32) r
 
 abbrev pub PatternKeeps : Row → Type 0
 PatternKeeps r = (r .unit ≡ patternGeo) × (r .channel < 2 ^ 16) × (r .datum < 2 ^ 16)

@@ -12,6 +12,7 @@ use Rattle.event.specs.Parser.{Result, ok, times, each}
 use Rattle.event.specs.Words.{wordAlone, storeWord}
 use Rattle.event.specs.Writing.{rowWith, ofKind, noRow}
 use Rattle.event.specs.Scanning.{storeWords, Writes}
+use Rattle.event.proofs.CountedRows.{one-more, no-more}
 use Rattle.event.proofs.Elements.{each-alone}
 use Rattle.event.proofs.RowJudged.{rows-from, row-taken, row-refused}
 use Rattle.event.proofs.Ends.{placed}
@@ -22,7 +23,7 @@ use Rattle.frs_layout.specs.Writing.{scalerAt, nextIndex, scaler}
 use Rattle.frs_layout.proofs.RowCount.{scaler-count}
 use Rattle.frs_layout.proofs.Rows.{codes-scaler}
 use Rattle.frs_writer.specs.Faults.{blockFault, scalerFault}
-use Rattle.frs_writer.proofs.Parts.{block-stored, one-more, no-more}
+use Rattle.frs_writer.proofs.Parts.{block-stored}
 
 -- `index` of n scalers are stored
 abbrev Stored : (n index : ℕ) → ℕ × ℕ → Type 0

@@ -14,6 +14,7 @@ use Rattle.event.specs.Words.{storeWord}
 use Rattle.event.specs.Writing.{ofKind, noRow}
 use Rattle.event.specs.Scanning.{Writes}
 use Rattle.event.proofs.ChannelLaws.{blocked-none, blocked-more}
+use Rattle.event.proofs.CountedRows.{one-more, no-more}
 use Rattle.event.proofs.RowJudged.{row-taken, row-refused}
 use Rattle.event.proofs.Turns.{begin}
 use Rattle.event.proofs.WritingTurns.{counted, WritesOn, rows-done, rows-refused, rows-taken}
@@ -21,7 +22,6 @@ use Rattle.frs_layout.specs.Layout.{longword, valueRow, valueChecks, channels}
 use Rattle.frs_layout.specs.Writing.{valueOf, value}
 use Rattle.frs_writer.specs.Faults.{valueFault}
 use Rattle.frs_writer.specs.Parts.{valueWords}
-use Rattle.frs_writer.proofs.Parts.{one-more, no-more}
 use Rattle.frs_writer.proofs.RowFaults.{value-seen, value-fields}
 
 -- so many are left, and the set holds the channels before

@@ -95,7 +95,7 @@ pub filled-parts : (ws : List ℕ) {k : ℕ} {b after b′ after′ : List ℕ} 
     → Scanned rows (parts ws) 0 b′ r after′ → Scanned rows (eventParser (length ws) 0 ws) 0 b′ r after′
 filled-parts ws {b′ = b′} {after′ = after′} {r = r} s t =
     let a = accepted-scan rows (eventParser (length ws) 0 ws) s in
-    let e = lastly-taken summed 13 (partsWith (finish 6)) 0 ws (sized (between 2 4096 (length ws)) (a .value) (a .place) (a .input) (a .parsed)) in
+    let e = lastly-taken summed 13 (partsWith (finish 6)) 0 ws (sized (between 2 4096 (length ws)) (a .value) (a .place) (a .input) (a .parsed)) .0 in
     subst (λ (x : Result ℕ Event). Scanned rows x 0 b′ r after′) (e ∙ sym (a .parsed)) t
   where
     sized : (b : Bool) (e : Event) (j : ℕ) (l : List ℕ) → (require b 1 0 >> lastly summed 13 (partsWith (finish 6))) 0 ws ≡ ok e j l → lastly summed 13 (partsWith (finish 6)) 0 ws ≡ ok e j l

@@ -15,7 +15,7 @@ use Rattle.event.proofs.ChannelLaws.{among, others-below}
 use Rattle.event.proofs.Codes.{T-true}
 use Rattle.event.proofs.Elements.{both}
 use Rattle.event.proofs.RowCodes.{SameFields}
-use Rattle.event.proofs.RowFaults.{judged, by-test}
+use Rattle.event.proofs.RowFaults.{judged, tested, test-number}
 use Rattle.s800_layout.specs.Layout.{datumRow, datumChecks}
 use Rattle.s800_layout.specs.Writing.{datumOf}
 use Rattle.s800_format.specs.declared.Format.{Format}
@@ -74,6 +74,6 @@ module _ (m : Format) {set : ℕ} {seen : List ℕ} (s : Blocked (m .barred) set
   pub datum-fault : faultIn (rowTests (ofKind (m .kind)) (datumOf (m .base)) (datumRow (m .kind) (m .base)) (datumChecks 22 22 (formatOf m) seen) r) ≡ datumFault m set r
   unfolding datumFault
   datum-fault =
-      by-test (judged (m .kind) (datumOf (m .base)) (datumRow (m .kind) (m .base)) (datumChecks 22 22 (formatOf m) seen) r (refl, (refl, (refl, tt))) from to)
-      (leb (m .base) (r .channel) && (fields && not (present set channel))) (λ t. t) (λ t. t)
+      test-number (tested (judged (m .kind) (datumOf (m .base)) (datumRow (m .kind) (m .base)) (datumChecks 22 22 (formatOf m) seen) r (refl, (refl, (refl, tt))) from to)
+      (leb (m .base) (r .channel) && (fields && not (present set channel))) (λ t. t) (λ t. t))
       ∙ ap (λ (n : ℕ). cond (eqb (m .kind) (r .kind)) n 21) (sym (nested (leb (m .base) (r .channel)) fields (present set channel)))

@@ -5,9 +5,9 @@ use native.Mathlib.Omega.{arith}
 use mathlib.Core.Path.{_≡_, refl, sym}
 use mathlib.Core.Bool.{Bool, true, false, cond, not, _&&_}
 use mathlib.Core.List.{List}
-use lib.Dec.{T, eqb, ltb, leb, ltb→lt, leb→le, lt→ltb, le→leb, eqb→eq}
+use lib.Dec.{eqb, leb, ltb→lt, leb→le, lt→ltb, le→leb}
 use lib.ListN.{length, drop}
-use borrow.Author.Tests.{eq-eqb, eqb-true}
+use borrow.Author.Tests.{eqb-true}
 use Rattle.event.specs.declared.Row.{Row}
 use Rattle.event.specs.declared.StampOrder.{StampOrder}
 use Rattle.event.specs.declared.StampOrder.the-variants.{Crossed, Rising}
@@ -15,10 +15,9 @@ use Rattle.event.specs.Parser.{Test, Passed, faultIn}
 use Rattle.event.specs.Rows.{row}
 use Rattle.event.specs.Words.{belowChecks}
 use Rattle.event.specs.Writing.{rowTests, ofKind, atKind, rowsIn, rowAt}
-use Rattle.event.proofs.Codes.{T-true, true-T}
-use Rattle.event.proofs.Elements.{both}
+use Rattle.event.proofs.Codes.{true-T}
 use Rattle.event.proofs.RowCodes.{SameFields}
-use Rattle.event.proofs.RowFaults.{OfField, judged, by-test}
+use Rattle.event.proofs.RowFaults.{OfField, judged, tested, test-number, each-of, three, datum-tested}
 use Rattle.event.proofs.RowsIn.{rows-count}
 use Rattle.event.proofs.RowJudged.{rows-from, rows-over}
 use Rattle.s800_layout.specs.Layout.{sampleRow, anodeRow, registerRow, stampRow, numberRow, sampleChecks, anodeChecks, registerChecks, stampChecks, numberChecks}
@@ -32,16 +31,6 @@ other-there xs i k h e = rw (rows-from (rowsIn xs) i (rw (rows-count xs) h), e)
 pub rows-ended : (xs : List ℕ) (i k : ℕ) → length xs / 4 ≤ i → false ≡ not (atKind k (drop i (rowsIn xs)))
 rows-ended xs i k h = rw (rows-over (rowsIn xs) i (rw (rows-count xs) h) .0)
 
--- three tests, each and all
-each-of : (a b c : Bool) → T ((a && b) && c) → T a × T b × T c
-each-of a b c t =
-    let x = both (a && b) c t in
-    let y = both a b (x .0) in
-    (y .0, y .1, x .1)
-
-three : (a b c : Bool) → T a → T b → T c → T ((a && b) && c)
-three a b c x y z = rw (T-true a x, T-true b y) z
-
 -- a row of which each field has a largest number
 module _ {A : Type 0} (k u c d : ℕ) (fields : Row → A) (print : A → Row) (checks : A → List Test) (r : Row) where
   abbrev Within : Type 0
@@ -52,11 +41,11 @@ module _ {A : Type 0} (k u c d : ℕ) (fields : Row → A) (print : A → Row) (
 
   by-limits : OfField (checks (fields r)) → (Rules → Within) → (r .kind ≡ k → Within → Rules) → faultIn (rowTests (ofKind k) fields print checks r) ≡ limitsFault k u c d r
   unfolding limitsFault
-  by-limits all to from = by-test (judged k fields print checks r all to from) ((leb (r .unit) u && leb (r .channel) c) && leb (r .datum) d)
+  by-limits all to from = test-number (tested (judged k fields print checks r all to from) ((leb (r .unit) u && leb (r .channel) c) && leb (r .datum) d)
       (λ t.
       let x = each-of (leb (r .unit) u) (leb (r .channel) c) (leb (r .datum) d) t in
       (leb→le (r .unit) u (x .0), leb→le (r .channel) c (x .1), leb→le (r .datum) d (x .2)))
-      (λ y. three (leb (r .unit) u) (leb (r .channel) c) (leb (r .datum) d) (le→leb (r .unit) u (y .0)) (le→leb (r .channel) c (y .1)) (le→leb (r .datum) d (y .2)))
+      (λ y. three (leb (r .unit) u) (leb (r .channel) c) (leb (r .datum) d) (le→leb (r .unit) u (y .0)) (le→leb (r .channel) c (y .1)) (le→leb (r .datum) d (y .2))))
 
 -- what a row without a fault has
 pub record Bounded (k u c d : ℕ) (r : Row) : Type 0 where
@@ -105,10 +94,4 @@ number-fault r = by-limits 3 0 65535 0xffffffff numberOf numberRow (numberChecks
 -- the time of a pair
 pub time-fault : (channel : ℕ) (r : Row) → faultIn (rowTests (ofKind 5) (λ r. r .datum) (row 5 0 channel) (belowChecks 22 (2 ^ 12)) r) ≡ timeFault channel r
 unfolding timeFault
-time-fault channel r =
-    by-test (judged 5 (λ r. r .datum) (row 5 0 channel) (belowChecks 22 (2 ^ 12)) r {Keeps = (r .unit ≡ 0) × (r .channel ≡ channel) × T (ltb (r .datum) 4096)} (refl, tt)
-    (λ p. (p .0 .1, p .0 .2, p .1 .0)) (λ e h. ((e, h .0, h .1, refl), (h .2, tt)))) ((eqb (r .unit) 0 && eqb (r .channel) channel) && ltb (r .datum) 4096)
-    (λ t.
-    let x = each-of (eqb (r .unit) 0) (eqb (r .channel) channel) (ltb (r .datum) 4096) t in
-    (eqb→eq (r .unit) 0 (x .0), eqb→eq (r .channel) channel (x .1), x .2))
-    (λ y. three (eqb (r .unit) 0) (eqb (r .channel) channel) (ltb (r .datum) 4096) (rw (eq-eqb (r .unit) 0 (y .0)) tt) (rw (eq-eqb (r .channel) channel (y .1)) tt) (y .2))
+time-fault channel r = test-number (datum-tested 5 0 channel (2 ^ 12) r)

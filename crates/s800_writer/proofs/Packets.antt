@@ -50,7 +50,7 @@ module _ (m : Format) (f : ChannelFormat) (e : formatOf m ≡ f) where
 
   channels-as : (rs : List Row) (i : ℕ) {k : ℕ} {b after : List ℕ} {r : Part} → Writes 16 (each (datumWords m)) (channelRows (m .kind) (m .base) (formatOf m) i (drop i rs)) rs k b r after
       → Writes 16 (map (datumWord f)) (channelRows (m .kind) (m .base) f i (drop i rs)) rs k b r after
-  channels-as rs i s = writes-as 16 (each (datumWords m)) (map (datumWord f)) (channelRows (m .kind) (m .base) f i (drop i rs)) data-words (rw e at s)
+  channels-as rs i s = writes-as 16 (each (datumWords m)) (map (datumWord f)) (channelRows (m .kind) (m .base) f i (drop i rs)) (λ xs j l p. data-words xs) (rw e at s)
 
 module _ (rs : List Row) (i : ℕ) where
   -- 0x5802
@@ -87,7 +87,7 @@ module _ (rs : List Row) (i : ℕ) where
   -- opaque words
   pub opaque-content : (k : Opaque) {b after : List ℕ} {r : Part} → Writes 16 (each wordAlone) (several (datumBelow 11 0 (2 ^ 16)) (atPacket) (i + 1) (drop (i + 1) rs)) rs 2 b r after
       → Writes 16 (contentWords (opaque k)) (contentAt (opaque k) 0 rs i) rs 2 b r after
-  opaque-content k = writes-as 16 (each wordAlone) (λ ws. ws) (contentAt (opaque k) 0 rs i) each-alone
+  opaque-content k = writes-as 16 (each wordAlone) (λ ws. ws) (contentAt (opaque k) 0 rs i) (λ ws j l p. each-alone ws)
 
   module _ {r : Row} (e : r ≡ getD rs (i + 1) noRow) where
     two : i + 1 + 1 ≡ i + 2

@@ -1,0 +1,86 @@
+-- The rules of each kind of row, as the code tests them.
+-- Assumes nothing.
+use Prim.Native.Nat.{ℕ, _^_, _<_}
+use mathlib.Core.Path.{_≡_, refl, sym, _∙_}
+use mathlib.Core.Bool.{Bool, true, false, cond, _&&_}
+use mathlib.Core.List.{[]}
+use lib.Dec.{T, eqb, ltb, eqb→eq, ltb→lt, lt→ltb}
+use borrow.Author.Tests.{eq-eqb, ne-eqb}
+use Rattle.event.specs.declared.Row.{Row}
+use Rattle.event.specs.Rows.{row}
+use Rattle.event.specs.Writing.{sameRow}
+use Rattle.event.proofs.Codes.{T-true}
+use Rattle.event.proofs.Elements.{both}
+use Rattle.event.proofs.RowCodes.{fields-same}
+use Rattle.event.proofs.RowFaults.{Judged, judged, Tested, tested, each-of, three, datum-tested}
+use Rattle.rcnp_layout.specs.Event.{idOf, sumId, formOf}
+use Rattle.rcnp_layout.specs.Layout.{regionRow, allowedSize}
+use Rattle.rcnp_layout.specs.Writing.{headerOf, headerRow, headerChecks}
+use Rattle.rcnp_writer.specs.Faults.{headerFault, sumFault, datumFault, vdcFault}
+
+-- a region's own row
+abbrev pub HeaderKeeps : Row → Type 0
+HeaderKeeps r = (r .channel < 2 ^ 12) × (r .datum ≡ 0) × ((r .unit ≡ idOf (formOf (r .unit))) × T (allowedSize (formOf (r .unit)) (r .channel)))
+
+pub header-judged : (r : Row) → Judged (headerFault r) (r .kind) 32 (HeaderKeeps r)
+unfolding headerFault
+header-judged r = judged 32 headerOf headerRow headerChecks r (refl, (refl, tt))
+    (λ p. (ltb→lt (r .channel) (2 ^ 12) (p .1 .0), p .0 .3, (p .0 .1, p .1 .1 .0)))
+    (λ e h. ((e, h .2 .0, refl, h .1), (lt→ltb (r .channel) (2 ^ 12) (h .0), (h .2 .1, tt))))
+
+pub header-tested : (r : Row) {known allowed : Bool} → known ≡ eqb (r .unit) (idOf (formOf (r .unit))) → allowed ≡ allowedSize (formOf (r .unit)) (r .channel)
+    → Tested (headerFault r) (r .kind) 32 ((ltb (r .channel) 4096 && eqb (r .datum) 0) && (known && allowed))
+header-tested r {known} {allowed} p q =
+    let a = ltb (r .channel) 4096 in
+    let b = eqb (r .datum) 0 in
+    tested (header-judged r) ((a && b) && (known && allowed))
+    (λ t.
+    let x = each-of a b (known && allowed) t in
+    let y = both known allowed (x .2) in
+    (ltb→lt (r .channel) 4096 (x .0), eqb→eq (r .datum) 0 (x .1), (eqb→eq (r .unit) (idOf (formOf (r .unit))) (rw p at (y .0)), rw q at (y .1))))
+    (λ h. three a b (known && allowed) (lt→ltb (r .channel) 4096 (h .0)) (rw (eq-eqb (r .datum) 0 (h .1)) tt)
+    (rw (p ∙ eq-eqb (r .unit) (idOf (formOf (r .unit))) (h .2 .0), q) (h .2 .1)))
+
+-- the check sum region's own row
+pub sum-tested : (r : Row) → Tested (sumFault r) (r .kind) 32 ((eqb (r .unit) 15 && eqb (r .channel) 1) && eqb (r .datum) 0)
+unfolding sumFault
+sum-tested r =
+    let a = eqb (r .unit) 15 in
+    let b = eqb (r .channel) 1 in
+    let c = eqb (r .datum) 0 in
+    tested {Keeps = (r .unit ≡ 15) × (r .channel ≡ 1) × (r .datum ≡ 0)}
+    (judged 32 (λ r. tt {0}) (λ u. regionRow sumId 1) (λ u. []) r tt (λ p. (p .0 .1, p .0 .2, p .0 .3)) (λ e h. ((e, h .0, h .1, h .2), tt))) ((a && b) && c)
+    (λ t. let x = each-of a b c t in (eqb→eq (r .unit) 15 (x .0), eqb→eq (r .channel) 1 (x .1), eqb→eq (r .datum) 0 (x .2)))
+    (λ h. three a b c (rw (eq-eqb (r .unit) 15 (h .0)) tt) (rw (eq-eqb (r .channel) 1 (h .1)) tt) (rw (eq-eqb (r .datum) 0 (h .2)) tt))
+
+-- the row of a word, or of a scaler
+pub datum-rules : (k channel bound : ℕ) (r : Row)
+    → Tested (datumFault k channel bound r) (r .kind) k ((eqb (r .unit) 0 && eqb (r .channel) channel) && ltb (r .datum) bound)
+unfolding datumFault
+datum-rules k channel bound r = datum-tested k 0 channel bound r
+
+-- a row of a VDC region
+module _ (begun : Bool) (r : Row) where
+  pub vdc-head : r .kind ≡ 35 → {n : ℕ} {b : Bool} → ltb (r .unit) 256 && (ltb (r .channel) 8 && ltb (r .datum) 8) ≡ b → n ≡ cond b 0 22 → n ≡ vdcFault begun r
+  unfolding vdcFault
+  vdc-head e t q = rw (eq-eqb 35 (r .kind) (sym e), fields-same r (row 35 (r .unit) (r .channel) (r .datum)) (e, refl, refl, refl), t, q)
+
+  module _ (other : r .kind ≡ 35 → ⊥) where
+    -- only its unit may differ from what its fields print
+    of-unit : r .kind ≡ 36 → (b : Bool) → {n : ℕ} → n ≡ cond (eqb (r .unit) 0 && b) 0 22 → n ≡ cond (sameRow r (row 36 0 (r .channel) (r .datum))) (cond b 0 22) 22
+    of-unit e b {n} q = go (eqb (r .unit) 0) refl q
+      where
+        go : (u : Bool) → eqb (r .unit) 0 ≡ u → n ≡ cond (u && b) 0 22 → n ≡ cond (sameRow r (row 36 0 (r .channel) (r .datum))) (cond b 0 22) 22
+        go true p q = rw (fields-same r (row 36 0 (r .channel) (r .datum)) (e, eqb→eq (r .unit) 0 (rw p tt), refl, refl)) q
+        go false p q = rw (eq-eqb (r .kind) 36 e, p) q
+
+    pub vdc-datum : begun && eqb 36 (r .kind) ≡ true → {n : ℕ} {b : Bool} → eqb (r .unit) 0 && (ltb (r .channel) 32 && ltb (r .datum) 1024) ≡ b → n ≡ cond b 0 22 → n ≡ vdcFault begun r
+    unfolding vdcFault
+    vdc-datum g t q =
+        let x = both begun (eqb 36 (r .kind)) (rw g tt) in
+        let e : r .kind ≡ 36 = sym (eqb→eq 36 (r .kind) (x .1)) in
+        rw (ne-eqb 35 (r .kind) (λ k. other (sym k)), T-true begun (x .0), eq-eqb 36 (r .kind) (sym e)) (of-unit e (ltb (r .channel) 32 && ltb (r .datum) 1024) (rw (← t) at q))
+
+    pub vdc-other : begun && eqb 36 (r .kind) ≡ false → 21 ≡ vdcFault begun r
+    unfolding vdcFault
+    vdc-other g = rw (ne-eqb 35 (r .kind) (λ k. other (sym k)), g)

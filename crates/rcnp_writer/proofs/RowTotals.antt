@@ -1,0 +1,70 @@
+-- The sum of an event's words, row by row.
+-- Assumes nothing.
+use Prim.Native.Nat.{ℕ, zero, suc, _+_, _/_, _%_, _≤_, _<_}
+use native.Mathlib.Omega.{arith}
+use mathlib.Core.Path.{_≡_, refl, ap, sym, _∙_}
+use mathlib.Core.List.{List, [], _∷_, _++_}
+use lib.ListN.{length, getD, take}
+use lib.Seq.{take-all}
+use borrow.Author.Tests.{ne-eqb}
+use Rattle.event.specs.declared.Row.{Row}
+use Rattle.event.specs.Parser.{alone, each}
+use Rattle.event.specs.Words.{wordAlone}
+use Rattle.event.specs.Writing.{noRow}
+use Rattle.event.proofs.Elements.{prints-each, each-append, each-prints, each-mapped, each-map, each-alone}
+use Rattle.rcnp_layout.specs.Event.{VdcWord, head, datum, Form, inputRegister, scaler, vdc, opaque, Content, Event}
+use Rattle.rcnp_layout.specs.Layout.{headerWord, scalerWords, vdcWord, contentWords, regionWords, sumWords, words, total, wordRow, scalerRow, nextIndex, vdcRow, contentRows, regionRows, sumRows, rows}
+use Rattle.rcnp_layout.specs.Writing.{vdcOf}
+use Rattle.rcnp_layout.proofs.Sums.{total-append}
+use Rattle.rcnp_writer.specs.RowWords.{rowWords}
+
+content-words : (f : Form) (c : Content f) → each rowWords (contentRows f c) ≡ contentWords f c
+content-words inputRegister w = refl
+content-words scaler vs = each-prints rowWords scalerWords (λ i v. scalerRow i v ∷ []) nextIndex (λ i v. refl) 0 vs
+content-words vdc xs = each-mapped rowWords (λ x. vdcWord x ∷ []) vdcRow one xs ∙ each-map vdcWord xs
+  where
+    one : (x : VdcWord) → rowWords (vdcRow x) ≡ vdcWord x ∷ []
+    one (head moduleId eventNumber mode) = refl
+    one (datum channel time) = refl
+content-words (opaque k) ws = each-mapped rowWords wordAlone wordRow (λ w. refl) ws ∙ each-alone ws
+
+-- an event's words are those of its rows, one after the other
+pub words-of-rows : (e : Event) → each rowWords (rows e) ≡ words e
+words-of-rows e = each-append rowWords (each regionRows (e .regions)) (sumRows (e .sum)) ∙ ap (_++ sumWords (e .sum))
+    (ap (each rowWords) (sym (prints-each regionRows alone tt (e .regions)))
+    ∙ each-prints rowWords regionWords (λ u. regionRows) alone (λ u g. rw (content-words (g .form) (g .content))) tt (e .regions))
+
+-- the sum of the words of the first i rows
+abbrev pub totalTo : List Row → ℕ → ℕ
+totalTo rs i = total (each rowWords (take i rs))
+
+one-more : (rs : List Row) (i : ℕ) → i < length rs → totalTo rs (suc i) ≡ totalTo rs i + total (rowWords (getD rs i noRow))
+one-more [] i h = absurd (omega arith)
+one-more (r ∷ rs) zero h = omega (arith, total-append (rowWords r) [])
+one-more (r ∷ rs) (suc i) h =
+    omega (arith, total-append (rowWords r) (each rowWords (take (suc i) rs)), total-append (rowWords r) (each rowWords (take i rs)), one-more rs i (omega arith))
+
+-- one row more, as the loop takes it
+pub sum-next : (rs : List Row) (i : ℕ) {sum t : ℕ} {r : Row} → i < length rs → sum ≡ totalTo rs i % 65536 → r ≡ getD rs i noRow → t ≡ total (rowWords r) % 65536
+    → (sum + t) % 65536 ≡ totalTo rs (i + 1) % 65536
+sum-next rs i {r = r} h s e q =
+    let n : i + 1 ≡ suc i = omega arith in
+    let m : totalTo rs (suc i) ≡ totalTo rs i + total (rowWords r) = one-more rs i h ∙ ap (λ (x : Row). totalTo rs i + total (rowWords x)) (sym e) in
+    rw (n, m, s, q) (omega arith)
+
+pub summed-up : (rs : List Row) (i : ℕ) {sum : ℕ} → sum ≡ totalTo rs i % 65536 → length rs ≤ i → sum ≡ total (each rowWords rs) % 65536
+summed-up rs i s h = s ∙ ap (λ (l : List Row). total (each rowWords l) % 65536) (take-all i rs h)
+
+-- the sum of a row's words, by its kind
+module _ (r : Row) where
+  pub of-word : r .kind ≡ 33 → r .datum % 65536 ≡ total (rowWords r) % 65536
+  of-word e = rw e (omega arith)
+
+  pub of-header : r .kind ≡ 32 → {w : ℕ} → w ≡ headerWord (r .unit) (r .channel) → w % 65536 ≡ total (rowWords r) % 65536
+  of-header e q = rw (e, q) (omega arith)
+
+  pub of-scaler : r .kind ≡ 34 → (r .datum % 65536 + r .datum / 65536) % 65536 ≡ total (rowWords r) % 65536
+  of-scaler e = rw e (omega arith)
+
+  pub of-chamber : (r .kind ≡ 33 → ⊥) → (r .kind ≡ 32 → ⊥) → (r .kind ≡ 34 → ⊥) → {w : ℕ} → w ≡ vdcWord (vdcOf r) → w % 65536 ≡ total (rowWords r) % 65536
+  of-chamber a b c q = rw (ne-eqb 33 (r .kind) (λ e. a (sym e)), ne-eqb 32 (r .kind) (λ e. b (sym e)), ne-eqb 34 (r .kind) (λ e. c (sym e)), q) (omega arith)

@@ -1,0 +1,67 @@
+// The refusal that a row meets where it stands: 21, 22, or 0 for none.
+use event::Row;
+use event::kind;
+use event::refusal;
+use rcnp_format::allows_size;
+use rcnp_format::has_form;
+ghost use mathlib.Core.Path.{_≡_};
+ghost use Rattle.rcnp_writer.specs.Faults.{headerFault, sumFault, datumFault, vdcFault};
+
+// A region's own row: its id, a size of 12 bits that the id allows, 0.
+pub(crate) fn header_fault(row: Row) -> u32
+    ensures { λ r. ⌜ r ≡ headerFault row ⌝ }
+{
+    if row.kind != kind::REGION {
+        return refusal::KIND;
+    }
+    let allowed = has_form(row.unit) & allows_size(row.unit, row.channel);
+    if (row.channel < 4096) & (row.datum == 0) & allowed {
+        return 0;
+    }
+    refusal::FIELD
+}
+
+// The own row of the check sum region.
+pub(crate) fn sum_fault(row: Row) -> u32
+    ensures { λ r. ⌜ r ≡ sumFault row ⌝ }
+{
+    if row.kind != kind::REGION {
+        return refusal::KIND;
+    }
+    if (row.unit == rcnp_format::CHECK_SUM) & (row.channel == 1) & (row.datum == 0) {
+        return 0;
+    }
+    refusal::FIELD
+}
+
+// A row of this kind: unit 0, this channel, a datum below `end`.
+pub(crate) fn datum_fault(row: Row, kind: u32, channel: u32, end: u32) -> u32
+    ensures { λ r. ⌜ r ≡ datumFault kind channel end row ⌝ }
+{
+    if row.kind != kind {
+        return refusal::KIND;
+    }
+    if (row.unit == 0) & (row.channel == channel) & (row.datum < end) {
+        return 0;
+    }
+    refusal::FIELD
+}
+
+// A row of a VDC region: a module's header, or a datum where the region has begun.
+pub(crate) fn vdc_fault(row: Row, begun: bool) -> u32
+    ensures { λ r. ⌜ r ≡ vdcFault begun row ⌝ }
+{
+    if row.kind == kind::VDC_MODULE {
+        if (row.unit < 256) & ((row.channel < 8) & (row.datum < 8)) {
+            return 0;
+        }
+        return refusal::FIELD;
+    }
+    if begun & (kind::VDC_DATUM == row.kind) {
+        if (row.unit == 0) & ((row.channel < 32) & (row.datum < 1024)) {
+            return 0;
+        }
+        return refusal::FIELD;
+    }
+    refusal::KIND
+}
