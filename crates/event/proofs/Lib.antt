@@ -11,7 +11,7 @@ pub mod Width
 pub mod Join
 pub mod Leads
 pub mod Turns
-pub mod Items
+pub mod ItemsTaken
 pub mod ChannelLaws
 pub mod ChannelTurns
 pub mod Stores

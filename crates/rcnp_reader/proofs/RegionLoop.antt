@@ -13,7 +13,7 @@ use Rattle.event.specs.Rows.{storeRow}
 use Rattle.event.specs.Scanning.{storeRows, Whole, PartOf}
 use Rattle.event.proofs.Elements.{each-append}
 use Rattle.event.proofs.Ends.{placed}
-use Rattle.event.proofs.Items.{TakenTo, none-taken, all-taken, item-refuses, one-taken}
+use Rattle.event.proofs.ItemsTaken.{TakenTo, none-taken, all-taken, item-refuses, one-taken}
 use Rattle.event.proofs.Leads.{store-append}
 use Rattle.event.proofs.RowStores.{length-rows}
 use Rattle.rcnp_layout.specs.Event.{Region}

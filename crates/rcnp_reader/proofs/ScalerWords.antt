@@ -15,7 +15,7 @@ use Rattle.event.specs.Parser.{ok, refuse, ended, alone, prints}
 use Rattle.event.specs.Rows.{storeRow}
 use Rattle.event.specs.Scanning.{storeRows, Scanned}
 use Rattle.event.proofs.Elements.{prints-length}
-use Rattle.event.proofs.Items.{TakenTo, none-taken, all-taken, item-refuses, one-taken}
+use Rattle.event.proofs.ItemsTaken.{TakenTo, none-taken, all-taken, item-refuses, one-taken}
 use Rattle.event.proofs.Leads.{store-append, scanned-refuse}
 use Rattle.event.proofs.RowStores.{length-rows}
 use Rattle.event.proofs.Turns.{at-two}

@@ -12,7 +12,7 @@ use lib.Seq.{slice, slice-empty}
 use borrow.Author.Tests.{eq-eqb, ne-eqb, lt-ltb, ltb-true, ltb-false, le-leb, lt-leb}
 use Rattle.event.specs.Parser.{Result, ok, refuse, ended}
 use Rattle.event.specs.Rows.{row}
-use Rattle.event.proofs.Items.{TakenTo, none-taken, all-taken, item-refuses, one-taken}
+use Rattle.event.proofs.ItemsTaken.{TakenTo, none-taken, all-taken, item-refuses, one-taken}
 use Rattle.event.proofs.RowStores.{slice-more}
 use Rattle.event.proofs.Turns.{at-word}
 use Rattle.rcnp_layout.specs.Event.{VdcWord, head, datum, vdc}
