@@ -25,7 +25,7 @@ use Rattle.event.proofs.Impossible.{impossible}
 use Rattle.event.proofs.Leads.{refused-scan}
 use Rattle.event.proofs.RowStores.{length-rows, stored-more}
 use Rattle.event.proofs.Loops.{to-the-end, at-end}
-use Rattle.event.proofs.Turns.{Reached, begin, stop, step}
+use Rattle.event.proofs.Turns.{Reached, begin, finish, stop, step}
 use Rattle.frs_layout.specs.Event.{Value, Module, empty, withData}
 use Rattle.frs_layout.specs.Layout.{valueWord, valueRow, moduleRows, channels, geos}
 use Rattle.frs_layout.specs.Reading.{valueOf, value, values, footer, oneModule}
@@ -81,6 +81,10 @@ module _ {g set : ℕ} {ws : List ℕ} {end first k i : ℕ} {b : List ℕ} (h :
         from = omega (arith, h .from);
         reached = rw counted (value-taken (h .reached) below long e f c s (more ∙ rw (← e)) (z (i + 1) ∙ sym (z i)));
       }
+
+  -- all of them
+  pub values-end : end ≤ i → Scanned (each (valueRows g)) (values g first (slice first end ws)) k b (answer.Accepted (k + (end - first))) (storeRows b k (map (rowOf g) (slice first end ws)))
+  values-end l = let e : i ≡ end = omega (arith, h .reached .inside) in rw e at (finish (h .reached) l)
 
 -- the loop over modules; the set holds the GEOs before
 abbrev pub Modules : (set : ℕ) → List ℕ → ℕ → ℕ → List ℕ → ℕ → ℕ → List ℕ → Type 0
@@ -163,19 +167,20 @@ module _ {set : ℕ} {ws : List ℕ} {i₀ k₀ i k : ℕ} {b₀ b : List ℕ} (
           o .leads .3 ∙ values-read i n (i + 1) (values g) (footer g) ws (omega (arith, o .leads .2, o .leads .1)) (v .parsed)
           ∙ rw (← o .leads .1, ← e, footer-judged g (v .list) end w [], one)
 
-      pub footer-refused : {m : ℕ} (after : List ℕ) → m ≡ footerFault g w → (m ≡ 0 → ⊥) → EndsRefused m end after
-      footer-refused {m} after f z = refused-at after (read ∙ rw (← f, ne-eqb m 0 z))
+      pub footer-refused : {m j : ℕ} (after : List ℕ) → j ≡ end → m ≡ footerFault g w → (m ≡ 0 → ⊥) → EndsRefused m j after
+      footer-refused {m} after q f z = rw q (refused-at after (read ∙ rw (← f, ne-eqb m 0 z)))
 
-      pub block-taken : {set′ : ℕ} → 0 ≡ footerFault g w → set′ ≡ insert set (g % 32) → k₁ ≡ k + 1 → b₁ ≡ storeRows b k (rowsOpened ws n (Block g end))
-          → Modules set′ ws i₀ k₀ b₀ (end + 1) k₂ b₂
-      block-taken z q p t =
+      pub block-taken : {set′ j : ℕ} {b₃ : List ℕ} → j ≡ end → 0 ≡ footerFault g w → set′ ≡ insert set (g % 32) → k₁ ≡ k + 1 → b₁ ≡ storeRows b k (rowsOpened ws n (Block g end)) → b₃ ≡ b₂
+          → Modules set′ ws i₀ k₀ b₀ (j + 1) k₂ b₃
+      block-taken there z q p t same-rows =
           let v = good-values s in
           let few = h .few in
           let rest = map (valueRow g) (v .list) in
           let same = ap length (v .stored) ∙ length-rows rest b₁ k₁ ∙ ap length t ∙ length-rows (rowsOpened ws n (Block g end)) b k in
           let own : storeRow b k (row 21 g n (getD ws end 0 % 2 ^ 16)) ≡ storeRow b k (row 21 g (length (v .list)) (w % 2 ^ 16)) = rw (v .size, e) in
-          taken (withData g (v .list) (w % 2 ^ 16)) (read ∙ rw (← z)) refl (o .leads .0) q (omega (arith, o .leads .2)) (omega (arith, v .counted, v .size, o .leads .1))
-          (omega (arith, v .counted, length-map (v .list) (valueRow g))) (v .stored ∙ ap (λ (m : ℕ). storeRows b₁ m rest) p ∙ ap (λ (l : List ℕ). storeRows l (k + 1) rest) (t ∙ own)) same
+          rw (there, same-rows)
+          (taken (withData g (v .list) (w % 2 ^ 16)) (read ∙ rw (← z)) refl (o .leads .0) q (omega (arith, o .leads .2)) (omega (arith, v .counted, v .size, o .leads .1))
+          (omega (arith, v .counted, length-map (v .list) (valueRow g))) (v .stored ∙ ap (λ (m : ℕ). storeRows b₁ m rest) p ∙ ap (λ (l : List ℕ). storeRows l (k + 1) rest) (t ∙ own)) same)
 
 -- from the first module on
 pub from-start : (ws : List ℕ) (i₀ : ℕ) {k₀ : ℕ} {b₀ : List ℕ} {a : Answer} {after : List ℕ} → Scanned (each moduleRows) (many oneModule geos ended [] i₀ (slice i₀ (length ws) ws)) k₀ b₀ a after
