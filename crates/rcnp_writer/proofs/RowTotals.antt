@@ -1,12 +1,14 @@
 -- The sum of an event's words, row by row.
 -- Assumes nothing.
-use Prim.Native.Nat.{ℕ, zero, suc, _+_, _/_, _%_, _≤_, _<_}
+use Prim.Native.Nat.{ℕ, zero, suc, _+_, _/_, _%_, _^_, _≤_, _<_}
 use native.Mathlib.Omega.{arith}
 use mathlib.Core.Path.{_≡_, refl, ap, sym, _∙_}
+use mathlib.Core.Bool.{false}
 use mathlib.Core.List.{List, [], _∷_, _++_}
+use lib.Dec.{eqb}
 use lib.ListN.{length, getD, take}
 use lib.Seq.{take-all}
-use borrow.Author.Tests.{ne-eqb}
+use borrow.Author.Tests.{ne-eqb, lt-ltb, le-ltb}
 use Rattle.event.specs.declared.Row.{Row}
 use Rattle.event.specs.Parser.{alone, each}
 use Rattle.event.specs.Words.{wordAlone}
@@ -45,26 +47,31 @@ one-more (r ∷ rs) (suc i) h =
     omega (arith, total-append (rowWords r) (each rowWords (take (suc i) rs)), total-append (rowWords r) (each rowWords (take i rs)), one-more rs i (omega arith))
 
 -- one row more, as the loop takes it
-pub sum-next : (rs : List Row) (i : ℕ) {sum t : ℕ} {r : Row} → i < length rs → sum ≡ totalTo rs i % 65536 → r ≡ getD rs i noRow → t ≡ total (rowWords r) % 65536
-    → (sum + t) % 65536 ≡ totalTo rs (i + 1) % 65536
-sum-next rs i {r = r} h s e q =
+pub sum-next : (rs : List Row) (i sum : ℕ) {next t : ℕ} {r : Row} → i < length rs → sum % 65536 ≡ totalTo rs i % 65536 → r ≡ getD rs i noRow → t ≡ total (rowWords r)
+    → next ≡ (sum + t) % 2 ^ 64 → next % 65536 ≡ totalTo rs (i + 1) % 65536
+sum-next rs i sum {t = t} h s e q p =
     let n : i + 1 ≡ suc i = omega arith in
-    let m : totalTo rs (suc i) ≡ totalTo rs i + total (rowWords r) = one-more rs i h ∙ ap (λ (x : Row). totalTo rs i + total (rowWords x)) (sym e) in
-    rw (n, m, s, q) (omega arith)
+    let m : totalTo rs (suc i) ≡ totalTo rs i + t = one-more rs i h ∙ ap (totalTo rs i +_) (sym (q ∙ ap (λ (x : Row). total (rowWords x)) e)) in
+    rw (n, m, p) (omega arith)
 
-pub summed-up : (rs : List Row) (i : ℕ) {sum : ℕ} → sum ≡ totalTo rs i % 65536 → length rs ≤ i → sum ≡ total (each rowWords rs) % 65536
-summed-up rs i s h = s ∙ ap (λ (l : List Row). total (each rowWords l) % 65536) (take-all i rs h)
+pub summed-up : (rs : List Row) (i sum : ℕ) → sum % 65536 ≡ totalTo rs i % 65536 → length rs ≤ i → sum % 65536 ≡ total (each rowWords rs) % 65536
+summed-up rs i sum s h = s ∙ ap (λ (l : List Row). total (each rowWords l) % 65536) (take-all i rs h)
 
 -- the sum of a row's words, by its kind
 module _ (r : Row) where
-  pub of-word : r .kind ≡ 33 → r .datum % 65536 ≡ total (rowWords r) % 65536
+  pub of-word : r .kind ≡ 33 → r .datum ≡ total (rowWords r)
   of-word e = rw e (omega arith)
 
-  pub of-header : r .kind ≡ 32 → {w : ℕ} → w ≡ headerWord (r .unit) (r .channel) → w % 65536 ≡ total (rowWords r) % 65536
-  of-header e q = rw (e, q) (omega arith)
+  module _ (no-word : r .kind ≡ 33 → ⊥) where
+    other : eqb 33 (r .kind) ≡ false
+    other = ne-eqb 33 (r .kind) (λ e. no-word (sym e))
 
-  pub of-scaler : r .kind ≡ 34 → (r .datum % 65536 + r .datum / 65536) % 65536 ≡ total (rowWords r) % 65536
-  of-scaler e = rw e (omega arith)
+    pub of-chamber : 34 < r .kind → {w : ℕ} → w ≡ vdcWord (vdcOf r) → w ≡ total (rowWords r)
+    of-chamber h q = rw (other, lt-ltb 34 (r .kind) h, q) (omega arith)
 
-  pub of-chamber : (r .kind ≡ 33 → ⊥) → (r .kind ≡ 32 → ⊥) → (r .kind ≡ 34 → ⊥) → {w : ℕ} → w ≡ vdcWord (vdcOf r) → w % 65536 ≡ total (rowWords r) % 65536
-  of-chamber a b c q = rw (ne-eqb 33 (r .kind) (λ e. a (sym e)), ne-eqb 32 (r .kind) (λ e. b (sym e)), ne-eqb 34 (r .kind) (λ e. c (sym e)), q) (omega arith)
+    module _ (before : r .kind ≤ 34) where
+      pub of-header : r .kind ≡ 32 → {w : ℕ} → w ≡ headerWord (r .unit) (r .channel) → w ≡ total (rowWords r)
+      of-header e q = rw (e, q) (omega arith)
+
+      pub of-scaler : (r .kind ≡ 32 → ⊥) → r .datum % 65536 + r .datum / 65536 ≡ total (rowWords r)
+      of-scaler n = rw (other, le-ltb 34 (r .kind) before, ne-eqb 32 (r .kind) (λ e. n (sym e))) (omega arith)

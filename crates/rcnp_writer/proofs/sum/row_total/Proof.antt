@@ -4,13 +4,17 @@ use borrow.Author.Needs.{needs}
 use Rattle.rcnp_writer.proofs.sum.row_total.Statement.{statement}
 use Rattle.rcnp_writer.proofs.sum.row_total.Tie as tie
 
--- The last test: the row is neither a word nor a region's own.
+-- The last test: the row is neither a word nor of the chamber.
 module _ (m : tie.After-struct-known4) where
-  abbrev no-header : tie.Else2
-  no-header = m .before
+  abbrev no-chamber : tie.Else2
+  no-chamber = m .before
 
   abbrev no-word : tie.Else1
-  no-word = no-header .before .before
+  no-word = no-chamber .before .before
+
+-- It is a scaler.
+abbrev last : tie.After-struct-known6 → tie.Else3
+last c = c .before .before
 
 pub row-total-spec : {M : Type 1} → statement M
 row-total-spec =
@@ -19,9 +23,9 @@ row-total-spec =
     (λ c. search needs)
     (λ c. of-word _ (c .before .if1 .taken))
     (λ c κs. search needs)
-    (λ c. of-header _ (c .before .if2 .taken) (c .header-word .ensures))
-    (λ c. search needs)
-    (λ c. search needs)
-    (λ c. of-scaler _ (c .before .before .if3 .taken))
+    (λ c. let t = c .before in of-chamber _ (t .before .before .if1 .left) (t .if2 .taken) (c .vdc-word .ensures))
     (λ c κs. search needs)
-    (λ c. let m = c .before .before in of-chamber _ (no-word m .if1 .left) (no-header m .if2 .left) (c .before .if3 .left) (c .vdc-word .ensures)))
+    (λ c. let m = c .before .before in of-header _ (no-word m .if1 .left) (no-chamber m .if2 .left) (c .before .if3 .taken) (c .header-word .ensures))
+    (λ c. search needs)
+    (λ c. search needs)
+    (λ c. let e = last c in let m = e .before in of-scaler _ (no-word m .if1 .left) (no-chamber m .if2 .left) (e .if3 .left)))
