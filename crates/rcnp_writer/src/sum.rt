@@ -1,6 +1,5 @@
-// The sum of an event's words, from its rows: a pass that only counts words stores none.
-use crate::word::header_word;
-use crate::word::vdc_word;
+// The sum of an event's words, from its rows: no word is stored before it is known.
+use crate::word::first_word;
 use event::Row;
 use event::kind;
 use event::rows::row_at;
@@ -13,21 +12,15 @@ ghost use Rattle.event.specs.Writing.{rowsIn};
 ghost use Rattle.rcnp_layout.specs.Layout.{total};
 ghost use Rattle.rcnp_writer.specs.RowWords.{rowWords};
 
-// The sum of the words that a row says. Most rows are words as they are, which the first test finds; the second is one of order, so that the compiler makes no
-// table of jumps of them all.
+// The sum of the words that a row says.
 fn row_total(row: Row) -> usize
     ensures { λ r. ⌜ r ≡ total (rowWords row) ⌝ }
 {
-    if row.kind == kind::REGION_WORD {
-        return row.datum as usize;
+    let first = first_word(row);
+    if row.kind == kind::REGION_SCALER {
+        return first + (row.datum / 65536) as usize;
     }
-    if kind::REGION_SCALER < row.kind {
-        return vdc_word(row);
-    }
-    if row.kind == kind::REGION {
-        return header_word(row.unit, row.channel);
-    }
-    (row.datum % 65536 + row.datum / 65536) as usize
+    first
 }
 
 // The sum of the words of all rows, modulo 65,536. It is taken modulo 2^64 on the way.
