@@ -1,6 +1,6 @@
 -- The words of rows, stored one row after the other, and region by region. Over plain values.
 -- Assumes nothing.
-use Prim.Native.Nat.{ℕ, zero, suc, _+_, _*_, _-_, _/_, _≤_, _<_, min}
+use Prim.Native.Nat.{ℕ, zero, suc, _+_, _*_, _-_, _/_, _%_, _≤_, _<_, min}
 use native.Mathlib.Omega.{arith}
 use mathlib.Core.Path.{_≡_, refl, sym, ap, _∙_}
 use mathlib.Core.Bool.{Bool, true, false, cond, not, _&&_}
@@ -8,7 +8,7 @@ use mathlib.Core.List.{List, [], _∷_, _++_, append-nil}
 use lib.Dec.{eqb}
 use lib.ListN.{length, getD, take, drop, length-append, length-drop}
 use lib.Seq.{take-all, take-suc, take-add, getD-drop}
-use borrow.Author.Tests.{eq-eqb, ne-eqb}
+use borrow.Author.Tests.{ne-eqb}
 use borrow.Rule.Slice.PartMut.{putMid}
 use Rattle.event.specs.declared.Row.{Row}
 use Rattle.event.specs.Parser.{each}
@@ -18,23 +18,31 @@ use Rattle.event.specs.Scanning.{storeWords}
 use Rattle.event.proofs.Elements.{both, each-append}
 use Rattle.event.proofs.Leads.{store-append}
 use Rattle.event.proofs.WordStores.{length-words, part-written}
+use Rattle.rcnp_layout.specs.Layout.{scalerWords}
 use Rattle.rcnp_writer.specs.Parts.{wordsIn, RegionFilled}
-use Rattle.rcnp_writer.specs.RowWords.{firstWord, rowWords}
+use Rattle.rcnp_writer.specs.RowWords.{fieldWord, rowWords}
 
--- one row's words: two, and one
-module _ (r : Row) (b : List ℕ) (at : ℕ) {w : ℕ} {b₁ : List ℕ} (q : w ≡ firstWord r) (s : b₁ ≡ storeWord 16 b at w) where
-  pub two-stored : {b₂ : List ℕ} → r .kind ≡ 34 → b₂ ≡ storeWord 16 b₁ (at + 1) (r .datum / 65536) → (b₂ ≡ storeWords 16 b at (rowWords r)) × (at + 2 ≡ at + length (rowWords r))
-  two-stored e t = rw (eq-eqb 34 (r .kind) (sym e)) (t ∙ rw (s, q), refl)
+-- one row's words, by its kind
+module _ (r : Row) (b : List ℕ) (at : ℕ) where
+  abbrev RowStored : List ℕ → ℕ → Type 0
+  RowStored after next = (after ≡ storeWords 16 b at (rowWords r)) × (next ≡ at + length (rowWords r))
 
-  pub one-stored : (r .kind ≡ 34 → ⊥) → (b₁ ≡ storeWords 16 b at (rowWords r)) × (at + 1 ≡ at + length (rowWords r))
-  one-stored n = rw (ne-eqb 34 (r .kind) (λ e. n (sym e))) (s ∙ rw q, refl)
+  pub word-stored : {b₁ : List ℕ} → r .kind ≡ 33 → b₁ ≡ storeWord 16 b at (r .datum) → RowStored b₁ (at + 1)
+  word-stored e s = rw e (s, refl)
+
+  pub scaler-stored : {b₁ b₂ : List ℕ} → r .kind ≡ 34 → b₁ ≡ storeWord 16 b at (r .datum % 65536) → b₂ ≡ storeWord 16 b₁ (at + 1) (r .datum / 65536) → RowStored b₂ (at + 2)
+  scaler-stored e s t = rw e (t ∙ rw s, refl)
+
+  pub fields-stored : {b₁ : List ℕ} → (r .kind ≡ 33 → ⊥) → (r .kind ≡ 34 → ⊥) → {w : ℕ} → w ≡ fieldWord r → b₁ ≡ storeWord 16 b at w → RowStored b₁ (at + 1)
+  fields-stored m n q s = rw (ne-eqb 33 (r .kind) (λ e. m (sym e)), ne-eqb 34 (r .kind) (λ e. n (sym e))) (s ∙ rw q, refl)
 
 row-few : (r : Row) → length (rowWords r) ≤ 2 * 1
-row-few r = go (ofKind 34 r)
+row-few r = go (ofKind 33 r) (ofKind 34 r)
   where
-    go : (b : Bool) → length (firstWord r ∷ cond b (r .datum / 65536 ∷ []) []) ≤ 2 * 1
-    go true = omega arith
-    go false = omega arith
+    go : (b c : Bool) → length (cond b (r .datum ∷ []) (cond c (scalerWords (r .datum)) (fieldWord r ∷ []))) ≤ 2 * 1
+    go true c = omega arith
+    go false true = omega arith
+    go false false = omega arith
 
 -- m rows from row i on are stored at the front of a buffer, up to word `at`
 pub record StoredTo (rs : List Row) (i m at : ℕ) (b₀ b : List ℕ) : Type 0 where

@@ -3,22 +3,19 @@
 use Prim.Native.Nat.{ℕ, zero, suc, _+_, _/_, _%_, _^_, _≤_, _<_}
 use native.Mathlib.Omega.{arith}
 use mathlib.Core.Path.{_≡_, refl, ap, sym, _∙_}
-use mathlib.Core.Bool.{false}
 use mathlib.Core.List.{List, [], _∷_, _++_}
-use lib.Dec.{eqb}
 use lib.ListN.{length, getD, take}
 use lib.Seq.{take-all}
-use borrow.Author.Tests.{eq-eqb, ne-eqb, lt-ltb, le-ltb}
+use borrow.Author.Tests.{ne-eqb}
 use Rattle.event.specs.declared.Row.{Row}
 use Rattle.event.specs.Parser.{alone, each}
 use Rattle.event.specs.Words.{wordAlone}
 use Rattle.event.specs.Writing.{noRow}
 use Rattle.event.proofs.Elements.{prints-each, each-append, each-prints, each-mapped, each-map, each-alone}
 use Rattle.rcnp_layout.specs.Event.{VdcWord, head, datum, Form, inputRegister, scaler, vdc, opaque, Content, Event}
-use Rattle.rcnp_layout.specs.Layout.{headerWord, scalerWords, vdcWord, contentWords, regionWords, sumWords, words, total, wordRow, scalerRow, nextIndex, vdcRow, contentRows, regionRows, sumRows, rows}
-use Rattle.rcnp_layout.specs.Writing.{vdcOf}
+use Rattle.rcnp_layout.specs.Layout.{scalerWords, vdcWord, contentWords, regionWords, sumWords, words, total, wordRow, scalerRow, nextIndex, vdcRow, contentRows, regionRows, sumRows, rows}
 use Rattle.rcnp_layout.proofs.Sums.{total-append}
-use Rattle.rcnp_writer.specs.RowWords.{firstWord, rowWords}
+use Rattle.rcnp_writer.specs.RowWords.{fieldWord, rowWords}
 
 content-words : (f : Form) (c : Content f) → each rowWords (contentRows f c) ≡ contentWords f c
 content-words inputRegister w = refl
@@ -57,32 +54,13 @@ sum-next rs i sum {t = t} h s e q p =
 pub summed-up : (rs : List Row) (i sum : ℕ) → sum % 65536 ≡ totalTo rs i % 65536 → length rs ≤ i → sum % 65536 ≡ total (each rowWords rs) % 65536
 summed-up rs i sum s h = s ∙ ap (λ (l : List Row). total (each rowWords l) % 65536) (take-all i rs h)
 
--- a row's first word, by its kind
+-- the sum of a row's words, by its kind
 module _ (r : Row) where
-  pub of-word : r .kind ≡ 33 → r .datum ≡ firstWord r
-  of-word e = rw e
+  pub sum-of-word : r .kind ≡ 33 → r .datum ≡ total (rowWords r)
+  sum-of-word e = rw e (omega arith)
 
-  module _ (no-word : r .kind ≡ 33 → ⊥) where
-    other : eqb 33 (r .kind) ≡ false
-    other = ne-eqb 33 (r .kind) (λ e. no-word (sym e))
+  pub sum-of-scaler : r .kind ≡ 34 → r .datum % 65536 + r .datum / 65536 ≡ total (rowWords r)
+  sum-of-scaler e = rw e (omega arith)
 
-    pub of-chamber : 34 < r .kind → {w : ℕ} → w ≡ vdcWord (vdcOf r) → w ≡ firstWord r
-    of-chamber h q = rw (other, lt-ltb 34 (r .kind) h) q
-
-    module _ (before : r .kind ≤ 34) where
-      pub of-header : r .kind ≡ 32 → {w : ℕ} → w ≡ headerWord (r .unit) (r .channel) → w ≡ firstWord r
-      of-header e q = rw e q
-
-      pub of-scaler : (r .kind ≡ 32 → ⊥) → r .datum % 65536 ≡ firstWord r
-      of-scaler n = rw (other, le-ltb 34 (r .kind) before, ne-eqb 32 (r .kind) (λ e. n (sym e)))
-
--- the sum of its words: of two, and of one
-module _ (r : Row) {w : ℕ} (q : w ≡ firstWord r) where
-  pub low-bits : r .kind ≡ 34 → w ≡ r .datum % 65536
-  low-bits e = q ∙ rw e
-
-  pub sum-of-two : r .kind ≡ 34 → w + r .datum / 65536 ≡ total (rowWords r)
-  sum-of-two e = rw (eq-eqb 34 (r .kind) (sym e), q) (omega arith)
-
-  pub sum-of-one : (r .kind ≡ 34 → ⊥) → w ≡ total (rowWords r)
-  sum-of-one n = rw (ne-eqb 34 (r .kind) (λ e. n (sym e)), q) (omega arith)
+  pub sum-of-fields : (r .kind ≡ 33 → ⊥) → (r .kind ≡ 34 → ⊥) → {w : ℕ} → w ≡ fieldWord r → w ≡ total (rowWords r)
+  sum-of-fields a b q = rw (ne-eqb 33 (r .kind) (λ e. a (sym e)), ne-eqb 34 (r .kind) (λ e. b (sym e)), q) (omega arith)

@@ -1,5 +1,5 @@
 // The words of rows, stored where there is room for them. The rows were judged before, so that each says its words by its kind.
-use crate::word::first_word;
+use crate::word::field_word;
 use event::Row;
 use event::kind;
 use event::rows::row_at;
@@ -21,16 +21,21 @@ pub(crate) struct Written {
     pub count: usize,
 }
 
-// The words of a row, from word `at` on: one, but for a scaler two. The place after them.
+// The words of a row, from word `at` on: one, but for a scaler two, its low 16 bits and then the upper 8. The place after them.
 fn store_row(words: &mut [u16], at: usize, row: Row) -> usize
     requires { ⌜ at + 2 < 2 ^ 64 ⌝ }
     ensures { λ r. ⌜ (now (words .exit) ≡ storeWords 16 (now (words .entry)) at (rowWords row)) × (r ≡ at + length (rowWords row)) ⌝ }
 {
-    store_word16(words, at, first_word(row));
+    if row.kind == kind::REGION_WORD {
+        store_word16(words, at, row.datum as usize);
+        return at + 1;
+    }
     if row.kind == kind::REGION_SCALER {
+        store_word16(words, at, (row.datum % 65536) as usize);
         store_word16(words, at + 1, (row.datum / 65536) as usize);
         return at + 2;
     }
+    store_word16(words, at, field_word(row));
     at + 1
 }
 

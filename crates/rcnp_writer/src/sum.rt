@@ -1,5 +1,5 @@
 // The sum of an event's words, from its rows: no word is stored before it is known.
-use crate::word::first_word;
+use crate::word::field_word;
 use event::Row;
 use event::kind;
 use event::rows::row_at;
@@ -12,15 +12,17 @@ ghost use Rattle.event.specs.Writing.{rowsIn};
 ghost use Rattle.rcnp_layout.specs.Layout.{total};
 ghost use Rattle.rcnp_writer.specs.RowWords.{rowWords};
 
-// The sum of the words that a row says.
+// The sum of the words that a row says. Most rows are words as they are.
 fn row_total(row: Row) -> usize
     ensures { λ r. ⌜ r ≡ total (rowWords row) ⌝ }
 {
-    let first = first_word(row);
-    if row.kind == kind::REGION_SCALER {
-        return first + (row.datum / 65536) as usize;
+    if row.kind == kind::REGION_WORD {
+        return row.datum as usize;
     }
-    first
+    if row.kind == kind::REGION_SCALER {
+        return (row.datum % 65536 + row.datum / 65536) as usize;
+    }
+    field_word(row)
 }
 
 // The sum of the words of all rows, modulo 65,536. It is taken modulo 2^64 on the way.

@@ -4,7 +4,7 @@ use event::kind;
 ghost use mathlib.Core.Path.{_≡_};
 ghost use Rattle.rcnp_layout.specs.Layout.{headerWord, vdcWord};
 ghost use Rattle.rcnp_layout.specs.Writing.{vdcOf};
-ghost use Rattle.rcnp_writer.specs.RowWords.{firstWord};
+ghost use Rattle.rcnp_writer.specs.RowWords.{fieldWord};
 
 // A region's header: id in bits 15-12, size in bits 11-0.
 fn header_word(id: u32, size: u32) -> usize
@@ -24,19 +24,13 @@ fn vdc_word(row: Row) -> usize
     row.channel as usize * 1024 + row.datum as usize
 }
 
-// The first word that a row says, which is its only one but for a scaler's. Most rows are words as they are, which the first test finds; the second is one of
-// order, so that the compiler makes no table of jumps of them all.
-pub(crate) fn first_word(row: Row) -> usize
-    ensures { λ r. ⌜ r ≡ firstWord row ⌝ }
+// The word of a row that is neither a word as it is nor a scaler: a region's header, or a word of the chamber. (The test is one of order, so that the compiler
+// makes no table of jumps of all kinds.)
+pub(crate) fn field_word(row: Row) -> usize
+    ensures { λ r. ⌜ r ≡ fieldWord row ⌝ }
 {
-    if row.kind == kind::REGION_WORD {
-        return row.datum as usize;
-    }
     if kind::REGION_SCALER < row.kind {
         return vdc_word(row);
     }
-    if row.kind == kind::REGION {
-        return header_word(row.unit, row.channel);
-    }
-    (row.datum % 65536) as usize
+    header_word(row.unit, row.channel)
 }

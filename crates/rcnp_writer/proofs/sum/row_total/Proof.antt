@@ -1,24 +1,17 @@
 -- `sum::row_total` meets its contract. Assumes nothing.
-use native.Mathlib.Omega.{arith}
-use Rattle.rcnp_writer.proofs.RowTotals.{low-bits, sum-of-two, sum-of-one}
+use Rattle.rcnp_writer.proofs.RowTotals.{sum-of-word, sum-of-scaler, sum-of-fields}
 use borrow.Author.Needs.{needs}
 use Rattle.rcnp_writer.proofs.sum.row_total.Statement.{statement}
 use Rattle.rcnp_writer.proofs.sum.row_total.Tie as tie
-
--- A scaler: its first word is known.
-module _ (c : tie.After-struct-known2) where
-  abbrev scaler : tie.Then1
-  scaler = c .before
-
-  abbrev first-made : tie.After-first-word
-  first-made = scaler .before .before
 
 pub row-total-spec : {M : Type 1} → statement M
 row-total-spec =
     tie.close
     (tie.spec
-    (λ c κs. search needs)
     (λ c. search needs)
-    (λ c. omega (arith, low-bits _ (first-made c .first-word .ensures) (scaler c .if1 .taken)))
-    (λ c. sum-of-two _ (first-made c .first-word .ensures) (scaler c .if1 .taken))
-    (λ c. sum-of-one _ (c .before .before .first-word .ensures) (c .if1 .left)))
+    (λ c. sum-of-word _ (c .before .if1 .taken))
+    (λ c. search needs)
+    (λ c. search needs)
+    (λ c. sum-of-scaler _ (c .before .before .if2 .taken))
+    (λ c κs. search needs)
+    (λ c. let e = c .before in sum-of-fields _ (e .before .before .if1 .left) (e .if2 .left) (c .field-word .ensures)))
