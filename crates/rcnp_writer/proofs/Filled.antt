@@ -1,4 +1,4 @@
--- The words of rows, stored one row after the other, and region by region. Over plain values.
+-- The words of rows, stored row by row, region by region. Over plain values.
 -- Assumes nothing.
 use Prim.Native.Nat.{ℕ, zero, suc, _+_, _*_, _-_, _/_, _%_, _≤_, _<_, min}
 use native.Mathlib.Omega.{arith}
@@ -7,7 +7,7 @@ use mathlib.Core.Bool.{Bool, true, false, cond, not, _&&_}
 use mathlib.Core.List.{List, [], _∷_, _++_, append-nil}
 use lib.Dec.{eqb}
 use lib.ListN.{length, getD, take, drop, length-append, length-drop}
-use lib.Seq.{take-all, take-suc, take-add, getD-drop}
+use lib.Seq.{take-all, take-add, drop-drop}
 use borrow.Author.Tests.{ne-eqb}
 use borrow.Rule.Slice.PartMut.{putMid}
 use Rattle.event.specs.declared.Row.{Row}
@@ -17,9 +17,10 @@ use Rattle.event.specs.Writing.{ofKind, noRow}
 use Rattle.event.specs.Scanning.{storeWords}
 use Rattle.event.proofs.Elements.{both, each-append}
 use Rattle.event.proofs.Leads.{store-append}
+use Rattle.event.proofs.RowJudged.{rows-from}
 use Rattle.event.proofs.WordStores.{length-words, part-written}
 use Rattle.rcnp_layout.specs.Layout.{scalerWords}
-use Rattle.rcnp_writer.specs.Parts.{wordsIn, RegionFilled}
+use Rattle.rcnp_writer.specs.Parts.{wordsIn, Filled}
 use Rattle.rcnp_writer.specs.RowWords.{fieldWord, rowWords}
 
 -- one row's words, by its kind
@@ -36,7 +37,7 @@ module _ (r : Row) (b : List ℕ) (at : ℕ) where
   pub fields-stored : {b₁ : List ℕ} → (r .kind ≡ 33 → ⊥) → (r .kind ≡ 34 → ⊥) → {w : ℕ} → w ≡ fieldWord r → b₁ ≡ storeWord 16 b at w → RowStored b₁ (at + 1)
   fields-stored m n q s = rw (ne-eqb 33 (r .kind) (λ e. m (sym e)), ne-eqb 34 (r .kind) (λ e. n (sym e))) (s ∙ rw q, refl)
 
-row-few : (r : Row) → length (rowWords r) ≤ 2 * 1
+pub row-few : (r : Row) → length (rowWords r) ≤ 2 * 1
 row-few r = go (ofKind 33 r) (ofKind 34 r)
   where
     go : (b c : Bool) → length (cond b (r .datum ∷ []) (cond c (scalerWords (r .datum)) (fieldWord r ∷ []))) ≤ 2 * 1
@@ -44,61 +45,69 @@ row-few r = go (ofKind 33 r) (ofKind 34 r)
     go false true = omega arith
     go false false = omega arith
 
--- m rows from row i on are stored at the front of a buffer, up to word `at`
-pub record StoredTo (rs : List Row) (i m at : ℕ) (b₀ b : List ℕ) : Type 0 where
-  pub inside : i + m ≤ length rs
-  pub counted : at ≡ length (wordsIn rs i m)
-  pub few : at ≤ 2 * m
-  pub stored : b ≡ storeWords 16 b₀ 0 (wordsIn rs i m)
+pub same-length : {rs : List Row} {i j at end : ℕ} {b b′ : List ℕ} → Filled rs i j at end b b′ → length b′ ≡ length b
+same-length {rs} {i} {j} {at} {b = b} f = ap length (f .stored) ∙ length-words 16 (wordsIn rs i (j - i)) b at
 
-pub same-length : {rs : List Row} {i m at : ℕ} {b₀ b : List ℕ} → StoredTo rs i m at b₀ b → length b ≡ length b₀
-same-length {rs} {i} {m} {b₀ = b₀} h = ap length (h .stored) ∙ length-words 16 (wordsIn rs i m) b₀ 0
+-- no row
+pub filled-none : {rs : List Row} {i at : ℕ} {b : List ℕ} → i ≤ length rs → Filled rs i i at at b b
+filled-none {i = i} l = let z : i - i ≡ 0 = omega arith in record { order = omega arith; inside = l; counted = rw z (omega arith); few = omega arith; stored = rw z }
 
-pub none-stored : {rs : List Row} {i : ℕ} {b : List ℕ} → i ≤ length rs → StoredTo rs i 0 0 b b
-none-stored l = record { inside = omega arith; counted = refl; few = omega arith; stored = refl }
+pub first-none : {rs : List Row} {i at : ℕ} {b : List ℕ} → i ≤ length rs → Filled rs i (i + 0) at (at + 0) b b
+first-none {i = i} {at} l =
+    let row : i + 0 ≡ i = omega arith in
+    let end : at + 0 ≡ at = omega arith in
+    rw (row, end) (filled-none l)
 
--- the words of n rows more
-module _ {rs : List Row} {i m at : ℕ} {b₀ b : List ℕ} (h : StoredTo rs i m at b₀ b) where
-  more-stored : (n : ℕ) (ws : List ℕ) → wordsIn rs i (m + n) ≡ wordsIn rs i m ++ ws → i + (m + n) ≤ length rs → length ws ≤ 2 * n → {b′ : List ℕ} → b′ ≡ storeWords 16 b at ws
-      → StoredTo rs i (m + n) (at + length ws) b₀ b′
-  more-stored n ws e l s q =
-      let c : at ≡ 0 + length (wordsIn rs i m) = omega (arith, h .counted) in
-      record {
-        inside = l;
-        counted = rw e (omega (arith, length-append (wordsIn rs i m) ws));
-        few = let f = h .few in omega arith;
-        stored = q ∙ rw (h .stored, c) (sym (store-append (storeWord 16) b₀ 0 (wordsIn rs i m) ws)) ∙ ap (storeWords 16 b₀ 0) (sym e);
-      }
+-- one row
+pub filled-row : {rs : List Row} {i at end : ℕ} {b b′ : List ℕ} {r : Row} → i < length rs → r ≡ getD rs i noRow → (b′ ≡ storeWords 16 b at (rowWords r)) × (end ≡ at + length (rowWords r))
+    → Filled rs i (i + 1) at end b b′
+filled-row {rs} {i} {r = r} l e s =
+    let n : i + 1 - i ≡ 1 = omega arith in
+    let one : take 1 (drop i rs) ≡ r ∷ [] = rw (rows-from rs i l, e) in
+    let words : wordsIn rs i 1 ≡ rowWords r = rw one (append-nil (rowWords r)) in
+    record { order = omega arith; inside = omega arith; counted = rw (n, words) (s .1); few = omega (arith, s .1, row-few r); stored = rw (n, words) (s .0) }
 
-  pub row-stored : {r : Row} {at′ : ℕ} {b′ : List ℕ} → i + m < length rs → r ≡ getD rs (i + m) noRow → b′ ≡ storeWords 16 b at (rowWords r) → at′ ≡ at + length (rowWords r)
-      → StoredTo rs i (m + 1) at′ b₀ b′
-  row-stored {r} below e q c =
-      let n : m + 1 ≡ suc m = omega arith in
-      let one : take (suc m) (drop i rs) ≡ take m (drop i rs) ++ (r ∷ []) = take-suc (drop i rs) m noRow (omega (arith, length-drop i rs)) ∙ rw (getD-drop i rs m noRow, e) in
-      let words : wordsIn rs i (m + 1) ≡ wordsIn rs i m ++ rowWords r =
-      rw (n, one, each-append rowWords (take m (drop i rs)) (r ∷ [])) (ap (wordsIn rs i m ++_) (append-nil (rowWords r))) in
-      rw c (more-stored 1 (rowWords r) words (omega arith) (row-few r) q)
+-- rows, and those after them
+pub filled-then : {rs : List Row} {i j k at mid end : ℕ} {b b₁ b₂ : List ℕ} → Filled rs i j at mid b b₁ → Filled rs j k mid end b₁ b₂ → Filled rs i k at end b b₂
+filled-then {rs} {i} {j} {k} {at} {b = b} f g =
+    let m = j - i in
+    let n = k - j in
+    let o = f .order in
+    let p = g .order in
+    let few = f .few in
+    let more = g .few in
+    let rows : k - i ≡ m + n = omega arith in
+    let here : i + m ≡ j = omega arith in
+    let words : wordsIn rs i (m + n) ≡ wordsIn rs i m ++ wordsIn rs j n =
+    rw (take-add m n (drop i rs), drop-drop m i rs, here) (each-append rowWords (take m (drop i rs)) (take n (drop j rs))) in
+    record {
+      order = omega arith;
+      inside = g .inside;
+      counted = rw (rows, words) (omega (arith, f .counted, g .counted, length-append (wordsIn rs i m) (wordsIn rs j n)));
+      few = omega arith;
+      stored = rw (rows, words, store-append (storeWord 16) b at (wordsIn rs i m) (wordsIn rs j n), ← f .counted, ← f .stored) (g .stored);
+    }
 
-  pub region-filled : 1 ≤ m → RegionFilled rs i b₀ (i + m) at b
-  region-filled some =
-      let d : i + m - i ≡ m = omega arith in
-      record { more = omega arith; inside = h .inside; counted = rw d (h .counted); few = rw d (h .few); stored = rw d (h .stored) }
+-- one word more, as it is
+pub filled-word : (k : ℕ) {rs : List Row} {i at : ℕ} {b₀ b b′ : List ℕ} {r : Row} → Filled rs i (i + k) at (at + k) b₀ b → i + k < length rs → r ≡ getD rs (i + k) noRow → r .kind ≡ 33
+    → b′ ≡ storeWord 16 b (at + k) (r .datum) → Filled rs i (i + (k + 1)) at (at + (k + 1)) b₀ b′
+filled-word k {i = i} {at} {b = b} {r = r} f l e word s =
+    let row : i + (k + 1) ≡ i + k + 1 = omega arith in
+    let end : at + (k + 1) ≡ at + k + 1 = omega arith in
+    rw (row, end) (filled-then f (filled-row l e (word-stored r b (at + k) word s)))
 
--- a row after the first
-pub later : (b : Bool) (k : ℕ) → b && not (eqb k 0) ≡ true → 1 ≤ k
-later b zero e = let t = both b false (rw e tt) in absurd (t .1)
-later b (suc k) e = omega arith
+-- rows at the front of the part of the words that starts at their place
+pub filled-part : {rs : List Row} {i j at count start : ℕ} {b part part′ b′ : List ℕ} → start ≡ min at (length b) → part ≡ take (length b - start) (drop start b) → Filled rs i j 0 count part part′
+    → b′ ≡ putMid start (length b - start) b part′ → Filled rs i j at (at + count) b b′
+filled-part {rs} {i} {j} {at} {b = b} s lent f back =
+    let few = f .few in
+    record {
+      order = f .order;
+      inside = f .inside;
+      counted = omega (arith, f .counted);
+      few = omega arith;
+      stored = part-written 16 (wordsIn rs i (j - i)) b at s lent (f .stored) back;
+    }
 
--- all rows before row i are stored; the region there is written in the part of the words that starts at its place
-module _ {rs : List Row} {i at : ℕ} {b₀ b : List ℕ} (h : StoredTo rs 0 i at b₀ b) where
-  pub region-next : {start next count : ℕ} {part part′ b′ : List ℕ} → start ≡ min at (length b) → part ≡ take (length b - start) (drop start b) → RegionFilled rs i part next count part′
-      → b′ ≡ putMid start (length b - start) b part′ → StoredTo rs 0 next (at + count) b₀ b′
-  region-next {next = next} s lent f back =
-      let n = next - i in
-      let more = f .more in
-      let e : next ≡ i + n = omega arith in
-      let words : wordsIn rs 0 (i + n) ≡ wordsIn rs 0 i ++ wordsIn rs i n = rw (take-add i n rs) (each-append rowWords (take i rs) (take n (drop i rs))) in
-      rw (e, f .counted) (more-stored h n (wordsIn rs i n) words (omega (arith, f .inside)) (rw (f .counted) at (f .few)) (part-written 16 (wordsIn rs i n) b at s lent (f .stored) back))
-
-  pub all-stored : length rs ≤ i → b ≡ storeWords 16 b₀ 0 (each rowWords rs)
-  all-stored l = h .stored ∙ ap (λ (x : List Row). storeWords 16 b₀ 0 (each rowWords x)) (take-all i rs l)
+pub all-filled : {rs : List Row} {i end : ℕ} {b b′ : List ℕ} → Filled rs 0 i 0 end b b′ → length rs ≤ i → b′ ≡ storeWords 16 b 0 (each rowWords rs)
+all-filled {rs} {i} {b = b} f l = f .stored ∙ ap (λ (x : List Row). storeWords 16 b 0 (each rowWords x)) (take-all (i - 0) rs (omega arith))

@@ -1,6 +1,6 @@
 -- The parts of an event as the code writes them (the contracts of private functions).
 -- Assumes nothing.
-use Prim.Native.Nat.{ℕ, _-_, _*_, _≤_, _<_}
+use Prim.Native.Nat.{ℕ, _+_, _-_, _*_, _≤_}
 use mathlib.Core.Path.{_≡_}
 use mathlib.Core.List.{List, [], _∷_}
 use lib.Dec.{T}
@@ -40,10 +40,10 @@ Counts wordsOf x rs k r = Writes 16 wordsOf x rs k [] r []
 abbrev pub wordsIn : List Row → (i m : ℕ) → List ℕ
 wordsIn rs i m = each rowWords (take m (drop i rs))
 
--- the rows from `first` to `next` are written, as `count` words, at most two for a row, at the front of the buffer
-pub record RegionFilled (rs : List Row) (first : ℕ) (before : List ℕ) (next count : ℕ) (after : List ℕ) : Type 0 where
-  pub more : first < next
-  pub inside : next ≤ length rs
-  pub counted : count ≡ length (wordsIn rs first (next - first))
-  pub few : count ≤ 2 * (next - first)
-  pub stored : after ≡ storeWords 16 before 0 (wordsIn rs first (next - first))
+-- the rows from i to j, their words stored from word `at` to word `end`, at most two for a row
+pub record Filled (rs : List Row) (i j at end : ℕ) (before after : List ℕ) : Type 0 where
+  pub order : i ≤ j
+  pub inside : j ≤ length rs
+  pub counted : end ≡ at + length (wordsIn rs i (j - i))
+  pub few : end ≤ at + 2 * (j - i)
+  pub stored : after ≡ storeWords 16 before at (wordsIn rs i (j - i))

@@ -5,7 +5,7 @@ use event::kind;
 use event::rows::row_at;
 use event::words::part_start;
 use event::words::store_word16;
-ghost use Prim.Native.Nat.{_+_, _<_, _^_};
+ghost use Prim.Native.Nat.{_+_, _*_, _≤_, _<_, _^_};
 ghost use mathlib.Core.Path.{_≡_};
 ghost use lib.ListN.{length};
 ghost use denote.Ref.{now};
@@ -13,9 +13,9 @@ ghost use Rattle.event.specs.Parser.{each};
 ghost use Rattle.event.specs.Writing.{rowsIn};
 ghost use Rattle.event.specs.Scanning.{storeWords};
 ghost use Rattle.rcnp_writer.specs.RowWords.{rowWords};
-ghost use Rattle.rcnp_writer.specs.Parts.{RegionFilled};
+ghost use Rattle.rcnp_writer.specs.Parts.{Filled};
 
-// A region that was written: the place after its rows, and the number of its words.
+// Rows that were written: the place after them, and the number of words up to there.
 pub(crate) struct Written {
     pub next: usize,
     pub count: usize,
@@ -39,28 +39,49 @@ fn store_row(words: &mut [u16], at: usize, row: Row) -> usize
     at + 1
 }
 
-// The region whose own row is row `first`, up to the next one's or the last row, at the front of the words.
-fn write_region(rows: &[u32], first: usize, words: &mut [u16]) -> Written
-    requires { ⌜ first < length (rowsIn (now rows)) ⌝ }
-    ensures { λ r. ⌜ RegionFilled (rowsIn (now (rows .entry))) first (now (words .entry)) (r .next) (r .count) (now (words .exit)) ⌝ }
+// Words as they are, as long as rows of such stand there from row `first` on, from word `at` on: how many.
+fn store_words(rows: &[u32], first: usize, words: &mut [u16], at: usize) -> usize
+    requires { ⌜ (first ≤ length (rowsIn (now rows))) × (at ≤ 2 * first) ⌝ }
+    ensures { λ r. ⌜ Filled (rowsIn (now (rows .entry))) first (first + r) at (at + r) (now (words .entry)) (now (words .exit)) ⌝ }
 {
-    let mut at: usize = 0;
     let mut k: usize = 0;
     while first + k < rows.len() / 4 {
         let row = row_at(rows, first + k);
-        if (row.kind == kind::REGION) & (k != 0) {
-            return Written {
-                next: first + k,
-                count: at,
-            };
+        if row.kind != kind::REGION_WORD {
+            return k;
         }
-        at = store_row(words, at, row);
+        store_word16(words, at + k, row.datum as usize);
         k += 1;
     }
-    Written {
-        next: first + k,
-        count: at,
+    k
+}
+
+// The rows from row `first` on, up to the next region's own or the last one, from word `at` on.
+fn store_rows(rows: &[u32], first: usize, words: &mut [u16], at: usize) -> Written
+    requires { ⌜ (first ≤ length (rowsIn (now rows))) × (at ≤ 2 * first) ⌝ }
+    ensures { λ r. ⌜ Filled (rowsIn (now (rows .entry))) first (r .next) at (r .count) (now (words .entry)) (now (words .exit)) ⌝ }
+{
+    let mut i = first;
+    let mut count = at;
+    while i < rows.len() / 4 {
+        let row = row_at(rows, i);
+        if row.kind == kind::REGION {
+            return Written { next: i, count };
+        }
+        count = store_row(words, count, row);
+        i += 1;
     }
+    Written { next: i, count }
+}
+
+// The region whose own row is row `first`, at the front of the words. Most regions have words as they are, and these are stored in a loop of their own.
+fn write_region(rows: &[u32], first: usize, words: &mut [u16]) -> Written
+    requires { ⌜ first < length (rowsIn (now rows)) ⌝ }
+    ensures { λ r. ⌜ (first < r .next) × Filled (rowsIn (now (rows .entry))) first (r .next) 0 (r .count) (now (words .entry)) (now (words .exit)) ⌝ }
+{
+    let at = store_row(words, 0, row_at(rows, first));
+    let n = store_words(rows, first + 1, words, at);
+    store_rows(rows, first + 1 + n, words, at + n)
 }
 
 // All regions, each in the part of the words that starts at its place.

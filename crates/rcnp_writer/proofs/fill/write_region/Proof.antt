@@ -1,78 +1,57 @@
 -- `fill::write_region` meets its contract. Assumes nothing.
-use Prim.Native.Nat.{ℕ, _+_, _-_, _/_, _^_, _≤_, _<_}
+use Prim.Native.Nat.{ℕ, _+_, _*_, _/_, _≤_}
 use native.Mathlib.Omega.{arith}
 use mathlib.Core.List.{List}
-use lib.Dec.{eqb}
 use lib.ListN.{length}
 use Rattle.event.specs.Writing.{rowsIn}
 use Rattle.event.proofs.RowsIn.{rows-count}
-use Rattle.rcnp_writer.proofs.Filled.{StoredTo, none-stored, same-length, row-stored, region-filled, later}
+use Rattle.rcnp_writer.specs.Parts.{Filled}
+use Rattle.rcnp_writer.proofs.Filled.{filled-row, filled-then}
 use borrow.Author.Needs.{needs}
 use Rattle.rcnp_writer.proofs.fill.write_region.Statement.{statement}
 use Rattle.rcnp_writer.proofs.fill.write_region.Tie as tie
 
-abbrev Inv-loop : tie.InvT-loop
-Inv-loop rows first words₀ at₀ k₀ words at k = StoredTo (rowsIn rows) first k at words₀ words
-
-abbrev μ-loop : tie.MeasureT-loop
-μ-loop rows first words₀ at₀ k₀ words at k = length (rowsIn rows) - (first + k)
-
--- The loop's head: the elements, and the rows left.
-module _ (l : tie.At-loop Inv-loop μ-loop) where
-  abbrev entry : tie.Start Inv-loop μ-loop
-  entry = l .before .before .before
+-- The region's own row was stored.
+module _ (o : tie.After-store-row) where
+  abbrev entry : tie.Start
+  entry = o .before .before .before .before .before
 
   abbrev elements : List ℕ
   elements = entry .args .rows .now
 
-  inside : entry .args .first + l .loop .k ≤ length elements / 4
-  inside = omega (arith, l .loop .inv .inside, rows-count elements)
+  own : Filled (rowsIn elements) (entry .args .first) (entry .args .first + 1) 0 (o .store-row .result) (entry .args .words .now) (o .store-row .last .0)
+  own = filled-row (entry .pre) (o .before .row-at .ensures) (o .store-row .ensures)
 
--- A row was taken.
-module _ (c : tie.Else1 Inv-loop μ-loop) where
-  abbrev turn : tie.In-loop Inv-loop μ-loop
-  turn = c .before .before .before
+-- The words after it too.
+module _ (w : tie.After-store-words) where
+  abbrev own-stored : tie.After-store-row
+  own-stored = w .before .before .before .before
 
-  room : turn .before .loop .at + 2 < 2 ^ 64
-  room = let l = turn .before in omega (arith, inside l, turn .loop-test .taken, l .loop .inv .few)
+  ends : (entry own-stored .args .first + 1 + w .store-words .result ≤ length (elements own-stored) / 4)
+      × (own-stored .store-row .result + w .store-words .result ≤ 2 * (entry own-stored .args .first + 1 + w .store-words .result))
+  ends =
+      let o = own own-stored in
+      let f = w .store-words .ensures in
+      (omega (arith, f .inside, rows-count (elements own-stored)), omega (arith, o .few))
 
--- The next region's row stands there.
-abbrev region-over : tie.Then1 Inv-loop μ-loop → tie.At-loop Inv-loop μ-loop
-region-over c = c .before .before .before .before
-
-returns : tie.Need-returns Inv-loop μ-loop
+returns : tie.Need-returns
 returns c =
-    let l = region-over c in
-    region-filled (l .loop .inv) (later (eqb (c .before .before .row-at .result .kind) 32) (l .loop .k) (c .if1 .taken))
-
--- Its words were stored.
-abbrev taken : tie.After-slice-known2 Inv-loop μ-loop → tie.Else1 Inv-loop μ-loop
-taken c = c .before .before .before .before
-
-loop-again : tie.Need-loop-again Inv-loop μ-loop
-loop-again c =
-    let t = turn (taken c) in
-    let w = c .before .before in
-    row-stored (t .before .loop .inv) (omega (arith, t .loop-test .taken, rows-count (elements (t .before)))) (taken c .before .before .row-at .ensures)
-    (w .store-row .ensures .0) (w .store-row .ensures .1)
+    let r = c .before .before in
+    let w = r .before .before .before .before in
+    let f = r .store-rows .ensures in
+    (omega (arith, f .order), filled-then (own (own-stored w)) (filled-then (w .store-words .ensures) f))
 
 pub write-region-spec : {M : Type 1} → statement M
 write-region-spec =
     tie.close
     (tie.spec
-    Inv-loop
-    μ-loop
-    (λ c. none-stored (omega (arith, c .before .before .pre)))
-    (λ c. omega (arith, inside c))
-    (λ c. omega (arith, inside (c .before)))
     (λ c κs. search needs)
-    (λ c. omega (arith, inside (region-over c)))
-    (λ c. same-length (region-over c .loop .inv))
-    returns
-    (λ c κs. omega (arith, room (c .before)))
-    (λ c. let t = turn (taken c) in omega (arith, t .loop-test .taken))
-    (λ c. let t = turn (taken c) in omega (arith, t .loop-test .taken, rows-count (elements (t .before))))
-    loop-again
-    (λ c. omega (arith, inside (c .before)))
-    (λ c. same-length (c .before .loop .inv))
-    (λ c. region-filled (c .before .loop .inv) (omega (arith, entry (c .before) .pre, c .loop-test .left, rows-count (elements (c .before))))))
+    (λ c κs. search needs)
+    (λ c. let o = c .before .before in omega (arith, entry o .pre, rows-count (elements o)))
+    (λ c κs. let o = c .before .before .before in (own o .inside, omega (arith, own o .few)))
+    (λ c. omega (arith, ends (c .before .before)))
+    (λ c. omega (arith, ends (c .before .before)))
+    (λ c. omega (arith, ends (c .before .before .before)))
+    (λ c κs. let w = c .before .before .before in omega (arith, ends w, rows-count (elements (own-stored w))))
+    (λ c. search needs)
+    returns)

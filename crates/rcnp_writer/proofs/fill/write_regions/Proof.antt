@@ -7,13 +7,14 @@ use mathlib.Core.List.{List}
 use lib.ListN.{length}
 use Rattle.event.specs.Writing.{rowsIn}
 use Rattle.event.proofs.RowsIn.{rows-count}
-use Rattle.rcnp_writer.proofs.Filled.{StoredTo, none-stored, same-length, region-next, all-stored}
+use Rattle.rcnp_writer.specs.Parts.{Filled}
+use Rattle.rcnp_writer.proofs.Filled.{filled-none, filled-then, filled-part, all-filled, same-length}
 use borrow.Author.Needs.{needs}
 use Rattle.rcnp_writer.proofs.fill.write_regions.Statement.{statement}
 use Rattle.rcnp_writer.proofs.fill.write_regions.Tie as tie
 
 abbrev Inv-loop : tie.InvT-loop
-Inv-loop rows words₀ i₀ at₀ words i at = StoredTo (rowsIn rows) 0 i at words₀ words
+Inv-loop rows words₀ i₀ at₀ words i at = Filled (rowsIn rows) 0 i 0 at words₀ words
 
 abbrev μ-loop : tie.MeasureT-loop
 μ-loop rows words₀ i₀ at₀ words i at = length (rowsIn rows) - i
@@ -45,13 +46,13 @@ add-at : tie.Need-add-at Inv-loop μ-loop
 add-at c =
     let t = turn c in
     let f = region-written c .write-region .ensures in
-    omega (arith, t .before .loop .inv .few, f .few, f .more, f .inside, rows-count (elements t))
+    omega (arith, t .before .loop .inv .few, f .1 .few, f .0, f .1 .inside, rows-count (elements t))
 
 loop-less : tie.Need-loop-less Inv-loop μ-loop
-loop-less c = let f = region-written c .write-region .ensures in omega (arith, f .more, f .inside)
+loop-less c = let f = region-written c .write-region .ensures in omega (arith, f .0, f .1 .inside)
 
 loop-again : tie.Need-loop-again Inv-loop μ-loop
-loop-again c = region-next (turn c .before .loop .inv) (started c .part-start .ensures) refl (region-written c .write-region .ensures) refl
+loop-again c = filled-then (turn c .before .loop .inv) (filled-part (started c .part-start .ensures) refl (region-written c .write-region .ensures .1) refl)
 
 pub write-regions-spec : {M : Type 1} → statement M
 write-regions-spec =
@@ -59,7 +60,7 @@ write-regions-spec =
     (tie.spec
     Inv-loop
     μ-loop
-    (λ c. none-stored (omega arith))
+    (λ c. filled-none (omega arith))
     (λ c κs. search needs)
     (λ c. omega (arith, fits c))
     (λ c. omega (arith, fits c))
@@ -70,4 +71,4 @@ write-regions-spec =
     loop-less
     loop-again
     (λ c. same-length (c .before .loop .inv))
-    (λ c. all-stored (c .before .loop .inv) (omega (arith, c .loop-test .left, rows-count (c .before .before .before .before .args .rows .now)))))
+    (λ c. all-filled (c .before .loop .inv) (omega (arith, c .loop-test .left, rows-count (c .before .before .before .before .args .rows .now)))))

@@ -1,5 +1,4 @@
 -- `word::field_word` meets its contract. Assumes nothing.
-use mathlib.Core.Path.{_∙_}
 use borrow.Author.Tests.{lt-ltb, le-ltb}
 use borrow.Author.Needs.{needs}
 use Rattle.rcnp_writer.proofs.word.field_word.Statement.{statement}
