@@ -77,9 +77,6 @@ module _ (c : tie.After-slice-known2) where
   abbrev few : tie.Else2
   few = fits .before
 
-kept : tie.Need-same-length
-kept c = search needs
-
 returns-5 : tie.Need-returns-5
 returns-5 c =
     let k = few c .before in
@@ -101,5 +98,5 @@ write-spec =
     returns-3
     returns-4
     (λ c κs. search needs)
-    kept
+    (λ c. search needs)
     returns-5)
