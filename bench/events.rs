@@ -23,24 +23,36 @@ pub enum MakeUp {
     Mixed,
     Large,
     Smallest,
+    Opaque,
 }
 
-pub const MAKE_UPS: [MakeUp; 3] = [MakeUp::Mixed, MakeUp::Large, MakeUp::Smallest];
+pub const MAKE_UPS: [MakeUp; 4] = [MakeUp::Mixed, MakeUp::Large, MakeUp::Smallest, MakeUp::Opaque];
+
+/// Makes the parts of an event.
+type Make<W> = fn(&mut Rng) -> Vec<Vec<W>>;
+
+impl MakeUp {
+    /// None where the dialect has no opaque words.
+    fn function_of<W>(self, functions: &Functions<W>) -> Option<Make<W>> {
+        match self {
+            MakeUp::Mixed => Some(functions.mixed),
+            MakeUp::Large => Some(functions.large),
+            MakeUp::Smallest => Some(functions.smallest),
+            MakeUp::Opaque => functions.opaque,
+        }
+    }
+}
 
 impl<W: Copy> Events<W> {
-    /// Events until there are so many of them, or so many words.
+    /// Events until there are so many of them, or so many words; none where the dialect has no such events.
     pub fn made(
         functions: &Functions<W>,
         make_up: MakeUp,
         most_events: usize,
         most_words: usize,
-    ) -> Events<W> {
+    ) -> Option<Events<W>> {
+        let make = make_up.function_of(functions)?;
         let mut rng = Rng::new(SEED);
-        let make = match make_up {
-            MakeUp::Mixed => functions.mixed,
-            MakeUp::Large => functions.large,
-            MakeUp::Smallest => functions.smallest,
-        };
         let mut events = Events { words: vec![], rows: vec![], ends: vec![] };
         while events.ends.len() < most_events && events.words.len() < most_words {
             let words = (functions.event_of)(&make(&mut rng));
@@ -49,7 +61,7 @@ impl<W: Copy> Events<W> {
             events.words.extend_from_slice(&words);
             events.ends.push((events.words.len(), events.rows.len()));
         }
-        events
+        Some(events)
     }
 
     pub fn count(&self) -> usize {

@@ -48,7 +48,10 @@ fn library_rows<W: Word>(
     times: usize,
 ) {
     for make_up in MAKE_UPS {
-        let events = Events::made(functions, make_up, usize::MAX, bytes / size_of::<W>());
+        let most_words = bytes / size_of::<W>();
+        let Some(events) = Events::made(functions, make_up, usize::MAX, most_words) else {
+            continue;
+        };
         let comparison = Comparison::new(dialect, functions);
         comparison.agree(&events);
         let name = format!("{} {make_up:?}, {}", dialect.letter, size(bytes));
@@ -78,6 +81,7 @@ fn growth_tables() {
 
 fn growth_rows<W: Word>(dialect: &'static Dialect, functions: &'static Functions<W>) {
     let events = Events::made(functions, MakeUp::Mixed, MANY, usize::MAX);
+    let events = events.expect("every dialect has mixed events");
     for count in [1_000, 10_000, 100_000, MANY] {
         Comparison::new(dialect, functions).growth_row(&dialect.letter.to_string(), &events, count);
     }
@@ -88,7 +92,10 @@ fn host_table() {
     println!("| set | events | ns a call | ns a word | host/second |");
     println!("|---|---|---|---|---|");
     for make_up in MAKE_UPS {
-        let events = Events::made(&host::FUNCTIONS, make_up, usize::MAX, CACHED / size_of::<u16>());
+        let most_words = CACHED / size_of::<u16>();
+        let Some(events) = Events::made(&host::FUNCTIONS, make_up, usize::MAX, most_words) else {
+            continue;
+        };
         let name = format!("{} {make_up:?}, 64 KiB", host::DIALECT.letter);
         host_call::table_row(&name, &events, CACHED_TIMES);
     }

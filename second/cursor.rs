@@ -50,6 +50,15 @@ impl<'a> Cursor<'a> {
         }
     }
 
+    /// 21 at the next row, where no row may stand any more.
+    pub fn finish(&self) -> Result<(), Refusal> {
+        if self.is_done() {
+            Ok(())
+        } else {
+            refuse(21, self.at)
+        }
+    }
+
     /// 22 at the row last taken unless the test of its fields holds.
     pub fn require(&self, holds: bool) -> Result<(), Refusal> {
         if holds {

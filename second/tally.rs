@@ -1,7 +1,7 @@
 //! Counts of answers met, by source and dialect.
 
 use crate::base::{Answer, Order};
-use crate::dialects::{Special, Words, DIALECTS};
+use crate::dialects::{Dialect, Special, Words, DIALECTS};
 use crate::vectors::{self, Call, Vector};
 use crate::{host, lines};
 use std::collections::BTreeMap;
@@ -43,18 +43,35 @@ fn columns() -> Vec<Column> {
     columns
 }
 
-/// The special answers of all dialects, with their names.
-fn specials() -> Vec<(char, &'static Special)> {
-    let of_all = DIALECTS.iter().map(|dialect| (dialect.letter, dialect.wanted.special));
-    of_all.flat_map(|(letter, all)| all.iter().map(move |special| (letter, special))).collect()
+/// The source, the letter and the name of a special answer.
+type SpecialKey = (Source, char, &'static str);
+
+/// The special answers of a dialect to what comes from a source.
+fn special_of(source: Source, dialect: &'static Dialect) -> &'static Special {
+    match source {
+        Line | Reading => &dialect.wanted.special,
+        Writing => &dialect.wanted.special_writing,
+        Host => &Special::NONE,
+    }
+}
+
+/// The special answers of all dialects.
+fn specials() -> Vec<SpecialKey> {
+    let mut all = Vec::new();
+    for dialect in DIALECTS {
+        for source in SOURCES {
+            let names = special_of(source, dialect).names.iter();
+            all.extend(names.map(|name| (source, dialect.letter, *name)));
+        }
+    }
+    all
 }
 
 /// How often each answer was met.
 pub struct Tally {
     /// For a source, a letter and a refusal number (0 for an acceptance).
     met: BTreeMap<(Source, char, u32), u64>,
-    /// For a letter and the name of a special answer.
-    special: BTreeMap<(char, &'static str), u64>,
+    special: BTreeMap<SpecialKey, u64>,
 }
 
 impl Tally {
@@ -87,11 +104,20 @@ impl Tally {
 
     pub fn add_line(&mut self, words: Option<&Words>, answer: Answer) {
         let Some(Words { dialect, words }) = words else { return self.add(Line, '-', answer) };
-        for special in dialect.wanted.special {
-            let count = self.special.entry((dialect.letter, special.name)).or_insert(0);
-            *count += u64::from((special.is_met)(words, answer));
-        }
+        self.add_special(Line, dialect, words, answer);
         self.add(Line, dialect.letter, answer);
+    }
+
+    fn add_special(
+        &mut self,
+        source: Source,
+        dialect: &'static Dialect,
+        given: &[u32],
+        answer: Answer,
+    ) {
+        if let Some(name) = (special_of(source, dialect).name_of)(given, answer) {
+            *self.special.entry((source, dialect.letter, name)).or_insert(0) += 1;
+        }
     }
 
     pub fn add_call(&mut self, vector: &Vector, answer: Answer) {
@@ -99,6 +125,7 @@ impl Tally {
             Call::Write => Writing,
             Call::Read => Reading,
         };
+        self.add_special(source, vector.dialect, &vector.elements, answer);
         self.add(source, vector.dialect.letter, answer);
     }
 
@@ -110,8 +137,8 @@ impl Tally {
         self.met.get(&(column.source, column.letter, number)).copied().unwrap_or(0)
     }
 
-    fn special_count(&self, letter: char, special: &Special) -> u64 {
-        self.special.get(&(letter, special.name)).copied().unwrap_or(0)
+    fn special_count(&self, key: &SpecialKey) -> u64 {
+        self.special.get(key).copied().unwrap_or(0)
     }
 
     /// What these sources should have met and have not.
@@ -122,9 +149,9 @@ impl Tally {
             let name = |n| format!("not met: {:?} {} {n}", column.source, column.letter);
             missing.extend(unmet.map(name));
         }
-        for (letter, special) in specials() {
-            if sources.contains(&Line) && self.special_count(letter, special) == 0 {
-                missing.push(format!("not met: Line {letter} {}", special.name));
+        for key @ (source, letter, name) in specials() {
+            if sources.contains(&source) && self.special_count(&key) == 0 {
+                missing.push(format!("not met: {source:?} {letter} {name}"));
             }
         }
         missing
@@ -162,9 +189,8 @@ impl Tally {
             counts.for_each(|count| text += &format!(" {count:9}"));
             text.push('\n');
         }
-        for (letter, special) in specials() {
-            let count = self.special_count(letter, special);
-            text += &format!("Line {letter} {}: {count}\n", special.name);
+        for key @ (source, letter, name) in specials() {
+            text += &format!("{source:?} {letter} {name}: {}\n", self.special_count(&key));
         }
         text
     }

@@ -2,7 +2,7 @@
 
 use super::ensure;
 use crate::base::{Order, Row};
-use crate::dialects::{marks, Dialect, Marks, DIALECTS};
+use crate::dialects::{marks, Dialect, Marks, DIALECTS, OPAQUE_EVENT};
 use crate::lines::line_of;
 use crate::rng::Rng;
 
@@ -17,6 +17,7 @@ pub fn run() -> Result<(), String> {
             let words = dialect.mixed(&mut rng);
             check_round_trip(dialect, &words, Order::Rising)?;
             let rows = check_round_trip(dialect, &words, Order::Crossed)?;
+            check_mended(dialect, &words, &rows)?;
             met.extend(marks("words", [words.len() as u32]));
             (dialect.wanted.add_marks)(&words, &rows, met);
         }
@@ -30,7 +31,7 @@ pub fn run() -> Result<(), String> {
             ensure(met.contains(&mark), &message)?;
         }
     }
-    Ok(())
+    check_opaque(&mut rng)
 }
 
 /// Reading accepts, writing gives the words back, and reading these gives the rows again.
@@ -47,4 +48,26 @@ fn check_round_trip(dialect: &Dialect, words: &[u32], order: Order) -> Result<Ve
     let rows = dialect.rows_of(&written, order).map_err(show)?;
     ensure(rows.concat() == elements, &format!("rows of {}", line()))?;
     Ok(rows)
+}
+
+/// There is nothing to mend in an acceptable event.
+fn check_mended(dialect: &Dialect, words: &[u32], rows: &[Row]) -> Result<(), String> {
+    let Some(mend) = &dialect.mend else { return Ok(()) };
+    let (mut mended_words, mut mended_rows) = (words.to_vec(), rows.concat());
+    (mend.words)(&mut mended_words);
+    (mend.rows)(&mut mended_rows);
+    let is_same = mended_words == words && mended_rows == rows.concat();
+    let line = line_of(dialect, words);
+    ensure(is_same, &format!("mending leaves {} as it is", String::from_utf8_lossy(&line)))
+}
+
+/// The events that are almost all opaque have the same size in each dialect that has them.
+fn check_opaque(rng: &mut Rng) -> Result<(), String> {
+    for dialect in DIALECTS {
+        let Some(words) = dialect.opaque(rng) else { continue };
+        check_round_trip(dialect, &words, Order::DEFAULT)?;
+        let message = format!("the opaque events of {} have {OPAQUE_EVENT} words", dialect.letter);
+        ensure(words.len() == OPAQUE_EVENT, &message)?;
+    }
+    Ok(())
 }

@@ -16,6 +16,8 @@ pub struct Dialect {
     pub largest_event: usize,
     pub native: Native,
     pub rows: Rows,
+    /// None where no number is fixed by the whole event, or where the parts' own repair sets it.
+    pub mend: Option<Mend>,
     pub wanted: Wanted,
     /// Stored calls at the smallest and the largest sizes, with the rooms around what they need.
     pub large_readings: fn() -> Vec<Vector>,
@@ -42,21 +44,35 @@ pub struct Rows {
     pub too_many: Option<fn(&mut Rng, &[Row], usize) -> Vec<u32>>,
 }
 
+/// What sets right again, after a change of words or of row elements, the numbers that the whole
+/// event fixes: a sum, a count of words. Without it a damaged event would hardly ever be accepted.
+pub struct Mend {
+    pub words: fn(&mut [u32]),
+    pub rows: fn(&mut [u32]),
+}
+
 /// What a long comparison, the stored texts and the generator must have met.
 pub struct Wanted {
     /// The refusals of readings, 12 aside, and of writings.
     pub reading: &'static [u32],
     pub writing: &'static [u32],
-    pub special: &'static [Special],
+    /// Of lines and readings, from the words, and of writings, from the row elements.
+    pub special: Special,
+    pub special_writing: Special,
     /// Adds the marks of an acceptable event, from its words and rows.
     pub add_marks: fn(&[u32], &[Row], &mut Marks),
     pub marks: fn() -> Vec<Mark>,
 }
 
-/// An answer to a line that its refusal number alone does not tell.
+/// Answers that their refusal number alone does not tell: their names, and which of them, if any,
+/// an answer to what was given is.
 pub struct Special {
-    pub name: &'static str,
-    pub is_met: fn(&[u32], Answer) -> bool,
+    pub names: &'static [&'static str],
+    pub name_of: fn(&[u32], Answer) -> Option<&'static str>,
+}
+
+impl Special {
+    pub const NONE: Special = Special { names: &[], name_of: |_, _| None };
 }
 
 /// What an event shows: a name and a number, such as a tag and a length.
@@ -138,16 +154,48 @@ impl Dialect {
         }
     }
 
-    /// A random acceptable event, and the same as it is given.
+    /// A random acceptable event, almost all of its words opaque.
+    pub fn opaque(&self, rng: &mut Rng) -> Option<Vec<u32>> {
+        match self.native {
+            Native::Bits16(functions) => {
+                functions.opaque.map(|opaque| widened(&(functions.event_of)(&opaque(rng))))
+            }
+            Native::Bits32(functions) => {
+                functions.opaque.map(|opaque| (functions.event_of)(&opaque(rng)))
+            }
+        }
+    }
+
+    /// A random acceptable event, and the same as it is given: as it is or damaged, then often
+    /// mended.
     pub fn random(&'static self, rng: &mut Rng, is_damaged: bool) -> (Words, Words) {
-        let (good, given) = match self.native {
+        let (good, mut given) = match self.native {
             Native::Bits16(functions) => {
                 let (good, given) = functions.random(rng, is_damaged);
                 (widened(&good), widened(&given))
             }
             Native::Bits32(functions) => functions.random(rng, is_damaged),
         };
+        if given != good {
+            self.mend_words(rng, &mut given);
+        }
         (Words { dialect: self, words: good }, Words { dialect: self, words: given })
+    }
+
+    /// Mends words that were damaged, half of the times.
+    pub fn mend_words(&self, rng: &mut Rng, words: &mut [u32]) {
+        match &self.mend {
+            Some(mend) if rng.chance(50) => (mend.words)(words),
+            _ => {}
+        }
+    }
+
+    /// The same for row elements.
+    pub fn mend_rows(&self, rng: &mut Rng, elements: &mut [u32]) {
+        match &self.mend {
+            Some(mend) if rng.chance(50) => (mend.rows)(elements),
+            _ => {}
+        }
     }
 
     pub fn edges(&self) -> Edges<u32> {

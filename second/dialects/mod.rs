@@ -4,10 +4,11 @@
 mod dialect;
 mod frs;
 mod native;
+mod rcnp;
 pub(crate) mod s800;
 
-pub use dialect::{marks, Dialect, Mark, Marks, Rows, Special, Wanted, Words};
-pub use native::{widened, Edges, Functions, Native, Probed};
+pub use dialect::{marks, Dialect, Mark, Marks, Mend, Rows, Special, Wanted, Words};
+pub use native::{widened, Edges, Functions, Native, Probed, OPAQUE_EVENT, OPAQUE_WORDS};
 
-/// In the order of document 01, which is that of the dialects' numbers.
-pub static DIALECTS: [&Dialect; 2] = [&s800::DIALECT, &frs::DIALECT];
+/// In the order of documents 01 and 02, which is that of the dialects' numbers.
+pub static DIALECTS: [&Dialect; 3] = [&s800::DIALECT, &frs::DIALECT, &rcnp::DIALECT];

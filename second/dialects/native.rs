@@ -24,12 +24,19 @@ pub struct Functions<W: 'static> {
     pub mixed: fn(&mut Rng) -> Vec<Vec<W>>,
     pub smallest: fn(&mut Rng) -> Vec<Vec<W>>,
     pub large: fn(&mut Rng) -> Vec<Vec<W>>,
+    /// Of OPAQUE_EVENT words, all but few of them opaque; none where the dialect has no such words.
+    pub opaque: Option<fn(&mut Rng) -> Vec<Vec<W>>>,
     /// An event damaged, its lengths and counts often repaired afterwards.
     pub damaged: fn(&mut Rng, Vec<Vec<W>>) -> Vec<W>,
     /// An event cut or filled to a size about the smallest or the largest.
     pub resized: fn(&mut Rng, &[W]) -> Vec<W>,
     pub edges: fn() -> Edges<W>,
 }
+
+/// The words of an event that is almost all opaque, and how many of them are so: the same share in
+/// each dialect, so that their times can be compared.
+pub const OPAQUE_EVENT: usize = 1024;
+pub const OPAQUE_WORDS: usize = OPAQUE_EVENT - 16;
 
 impl<W: Copy> Functions<W> {
     // Both are timed: inlined into the loop that times them, they would change its other works.

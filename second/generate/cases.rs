@@ -68,7 +68,11 @@ fn writing(rng: &mut Rng, good: Words) -> Vector {
     let dialect = good.dialect;
     let words_now = good.words.len();
     let (elements, needed) = match (rng.below(100), dialect.rows.too_many) {
-        (0, Some(too_many)) => (too_many(rng, &rows, words_now), dialect.largest_event),
+        (0, Some(too_many)) => {
+            let mut elements = too_many(rng, &rows, words_now);
+            dialect.mend_rows(rng, &mut elements);
+            (elements, dialect.largest_event)
+        }
         (0..=59, _) => (damage_rows::damaged(rng, dialect, &rows), words_now),
         _ => (rows.concat(), words_now),
     };

@@ -1,7 +1,7 @@
 //! Broken lines: text that is not a line of 01, or that only just is one.
 
 use crate::dialects::DIALECTS;
-use crate::lines::{line_of, most_words, LONGEST_LINE};
+use crate::lines::{line_of, most_words, words_of_line, LONGEST_LINE};
 use crate::rng::Rng;
 
 /// A line broken in one way; at times it is still a line, such as a letter alone.
@@ -26,7 +26,14 @@ pub fn broken(rng: &mut Rng, line: &[u8]) -> Vec<u8> {
         14 => line = without_words(rng),
         _ => line.truncate(at),
     }
-    line
+    mended(rng, line)
+}
+
+/// The line, its words often mended where it still is one, of whichever dialect.
+fn mended(rng: &mut Rng, line: Vec<u8>) -> Vec<u8> {
+    let Ok(mut given) = words_of_line(&line) else { return line };
+    given.dialect.mend_words(rng, &mut given.words);
+    line_of(given.dialect, &given.words)
 }
 
 fn letters() -> Vec<u8> {
@@ -36,7 +43,7 @@ fn letters() -> Vec<u8> {
 /// The dialects' letters twice, the same in lower case, and others.
 fn first_characters() -> Vec<u8> {
     let letters = letters();
-    [&letters[..], &letters, &letters.to_ascii_lowercase(), b"RW0 "].concat()
+    [&letters[..], &letters, &letters.to_ascii_lowercase(), b"QW0 "].concat()
 }
 
 /// A letter alone or before a space, all letters, or another character.

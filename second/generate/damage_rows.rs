@@ -11,7 +11,7 @@ pub const FIELD_LIMITS: [u32; 30] = [
     0xfff, 0x1000, 0x1fff, 0x2000, 0x3fff, 0x4000, 0xffff, 0x1_0000, 0xffffffff,
 ];
 
-/// The elements of rows, damaged in one or two ways.
+/// The elements of rows, damaged in one or two ways, then often mended.
 pub fn damaged(rng: &mut Rng, dialect: &Dialect, rows: &[Row]) -> Vec<u32> {
     let mut rows = rows.to_vec();
     for _ in 0..rng.pick(&[1, 1, 1, 2]) {
@@ -30,6 +30,7 @@ pub fn damaged(rng: &mut Rng, dialect: &Dialect, rows: &[Row]) -> Vec<u32> {
         elements.truncate(elements.len() - loss);
     }
     elements.truncate(MOST_ELEMENTS);
+    dialect.mend_rows(rng, &mut elements);
     elements
 }
 

@@ -6,7 +6,7 @@ use crate::lines::{line_of, most_words, LONGEST_LINE};
 
 /// Wrong letters, spaces and digits.
 const BROKEN: [&str; 19] = [
-    "R",
+    "Q",
     "W",
     "SS",
     "S\t0001",

@@ -1,6 +1,6 @@
 //! Systematic changes of small acceptable events: every bit of their words flipped; of their rows
 //! every field just inside and just outside its range, every kind in every place, rows missing
-//! and rows too many.
+//! and rows too many. Where the dialect can mend such a change, it is tried as it is and mended.
 
 use crate::base::{Order, Row};
 use crate::dialects::Dialect;
@@ -16,7 +16,23 @@ pub fn flips(dialect: &Dialect) -> Vec<Vec<u32>> {
             events.push(flipped);
         }
     }
-    events
+    and_mended(events, dialect.mend.as_ref().map(|mend| mend.words))
+}
+
+/// The lists, each followed by itself mended where that is another one.
+fn and_mended(lists: Vec<Vec<u32>>, mend: Option<fn(&mut [u32])>) -> Vec<Vec<u32>> {
+    let Some(mend) = mend else { return lists };
+    let mut all = Vec::new();
+    for list in lists {
+        let mut mended = list.clone();
+        mend(&mut mended);
+        let is_other = mended != list;
+        all.push(list);
+        if is_other {
+            all.push(mended);
+        }
+    }
+    all
 }
 
 /// The elements of row lists for the writing.
@@ -29,6 +45,7 @@ pub fn row_lists(dialect: &Dialect) -> Vec<Vec<u32>> {
     for event in &probed {
         lists.extend(changed(dialect, &rows_of(&event.words), event.first_row));
     }
+    lists = and_mended(lists, dialect.mend.as_ref().map(|mend| mend.rows));
     lists.extend((dialect.rows.lists)());
     let elements = rows_of(&probed[0].words).concat();
     lists.extend((1..8).map(|cut| elements[..elements.len() - cut].to_vec()));

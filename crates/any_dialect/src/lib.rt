@@ -24,6 +24,7 @@ pub fn read(
     match dialect {
         Dialect::S => s800::read(words, order, rows),
         Dialect::F => frs::read(longwords, rows),
+        Dialect::R => rcnp::read(words, rows),
     }
 }
 
@@ -42,5 +43,6 @@ pub fn write(
     match dialect {
         Dialect::S => s800::write(rows, order, words),
         Dialect::F => frs::write(rows, longwords),
+        Dialect::R => rcnp::write(rows, words),
     }
 }

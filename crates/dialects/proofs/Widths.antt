@@ -9,7 +9,7 @@ use lib.Dec.{eqb}
 use lib.ListN.{length, take}
 use Rattle.event.specs.Outcome.{overlaid}
 use Rattle.dialects.specs.declared.Dialect.{Dialect}
-use Rattle.dialects.specs.declared.Dialect.the-variants.{S, F}
+use Rattle.dialects.specs.declared.Dialect.the-variants.{S, F, R}
 use Rattle.dialects.specs.Dialects.{width, ofWidth, over16, over32}
 
 -- the smaller of a number and a length: no more of the list
@@ -22,6 +22,7 @@ take-min (suc n) (x ∷ xs) = rw (suc-min-suc n (length xs), take-min n xs)
 pub by-width : (P : ℕ → Type 0) → P 16 → P 32 → (d : Dialect) → P (width d)
 by-width P short long S = short
 by-width P short long F = long
+by-width P short long R = short
 
 module _ (d : Dialect) where
   -- words given stand over the buffer of the width

@@ -11,6 +11,7 @@ pub mod Width
 pub mod Join
 pub mod Leads
 pub mod Turns
+pub mod Items
 pub mod ChannelLaws
 pub mod ChannelTurns
 pub mod Stores
@@ -22,6 +23,7 @@ pub mod Trips
 pub mod ReadingRefusals
 pub mod WritingRefusals
 pub mod WordStores
+pub mod RowStores
 pub mod RowFaults
 pub mod RowJudged
 pub mod WritingTurns

@@ -72,7 +72,8 @@ module _ {E : Type 0} {number : ℕ → Bool} {end : ℕ} {past : ℕ → ℕ} w
       → Keeps number end past s (lastly holds n p) Left
   keeps-lastly {A} {s} {Left} {p} holds n t c = record { run = λ i limit e h. go limit h (p i s) (c .run i limit e h) }
     where
-      go : (limit : ℕ) → limit ≤ end → (x : Result E A) → Fair number end past limit (λ r. (1 ≤ end) × Left r) x → Fair number end past limit Left (then (λ a. here >>= λ k. checked holds n (k - 1) a) x)
+      go : (limit : ℕ) → limit ≤ end → (x : Result E A) → Fair number end past limit (λ r. (1 ≤ end) × Left r) x
+          → Fair number end past limit Left (then (λ a. here >>= λ k. checked holds n (k - 1) a) x)
       go limit h (ok a j r) f = choice (holds a)
         where
           choice : (b : Bool) → Fair number end past limit Left (then (λ u. give a) (cond b (ok (tt {0}) j r) (refuse n (j - 1))))

@@ -1,15 +1,18 @@
 -- A loop by an index that scans items one by one: what it has reached, and what a turn does.
 -- Assumes nothing.
 use Prim.Native.Nat.{ℕ, suc, _+_, _-_, _≤_, _<_}
+use native.Mathlib.Numerals.{add-one}
 use native.Mathlib.Omega.{arith}
 use mathlib.Core.Path.{_≡_, refl, ap, sym, _∙_}
 use mathlib.Core.Bool.{Bool, true, false, cond}
 use mathlib.Core.List.{List, [], _∷_, _++_}
 use lib.ListN.{length, getD}
 use lib.Seq.{slice, slice-cons, slice-empty}
+use borrow.Author.Tests.{eq-eqb, lt-ltb}
 use Rattle.event.specs.declared.Answer.the-variants.{Accepted, Refused}
 use Rattle.event.specs.declared.Row.{Row}
 use Rattle.event.specs.Parser.{Result, ok, refuse, Parser, ended, then, _>>=_, give, here, checked, lastly, many, each}
+use Rattle.event.specs.Words.{wordBelow}
 use Rattle.event.specs.Scanning.{Scan, stores, storeRows, ScannedBy, LeadsBy, reading, Scanned}
 use Rattle.event.proofs.Codes.{Codes, any}
 use Rattle.event.proofs.Impossible.{impossible}
@@ -71,6 +74,17 @@ Reached item next = ReachedBy reading (upToStop ended item next)
 -- a word below the end
 pub at-word : (ws : List ℕ) (i end : ℕ) → i < end → end ≤ length ws → slice i end ws ≡ getD ws i 0 ∷ slice (suc i) end ws
 at-word ws i end h l = slice-cons i end ws 0 h l
+
+-- two words below the end
+pub at-two : (ws : List ℕ) (i end : ℕ) {v w : ℕ} → i + 1 < end → end ≤ length ws → v ≡ getD ws i 0 → w ≡ getD ws (i + 1) 0 → slice i end ws ≡ v ∷ w ∷ slice (i + 2) end ws
+at-two ws i end {v} {w} h l p q =
+    let two : suc (suc i) ≡ i + 2 = omega arith in
+    at-word ws i end (omega arith) l ∙ rw (← p) (ap (v ∷_) (at-word ws (suc i) end (omega arith) l ∙ rw (two, q, add-one i)))
+
+-- a word that is read whole
+pub read-below : (n bound : ℕ) (ws : List ℕ) (i end : ℕ) → i < end → end ≤ length ws → getD ws i 0 < bound
+    → wordBelow n bound i (slice i end ws) ≡ ok (getD ws i 0) (i + 1) (slice (i + 1) end ws)
+read-below n bound ws i end h l f = rw (at-word ws i end h l, eq-eqb (getD ws i 0) (getD ws i 0) refl, lt-ltb (getD ws i 0) bound f, add-one i)
 
 pub three-words : (ws : List ℕ) (i : ℕ) → i + 3 ≤ length ws → slice i (i + 3) ws ≡ getD ws i 0 ∷ getD ws (i + 1) 0 ∷ getD ws (i + 2) 0 ∷ []
 three-words ws i l =

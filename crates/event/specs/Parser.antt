@@ -71,7 +71,7 @@ module _ {E : Type 0} where
   abbrev pub checked : {A : Type 0} → (A → Bool) → (n k : ℕ) → A → Parser E A
   checked holds n k a = require (holds a) n k >> give a
 
-  -- such a rule at the last place that `p` took
+  -- such a rule, at the place of the last element that `p` took
   abbrev pub lastly : {A : Type 0} → (A → Bool) → (n : ℕ) → Parser E A → Parser E A
   lastly holds n p = p >>= λ a. here >>= λ k. checked holds n (k - 1) a
 

@@ -86,6 +86,24 @@ module _ {X R E A A₀ : Type 0} (scan : Scan X R) (itemsOf : A → List X) (res
   pub record BeginsBy (r : Part) : Type 0 where
     pub begun : Begun r
 
+-- A part of an event that is read, for which a parser gave x.
+module _ {A : Type 0} (rowsOf : A → List Row) (x : Result ℕ A) (ws : List ℕ) (k₀ : ℕ) (before after : List ℕ) where
+  -- x succeeded up to `at`, and the rows of its value are stored after the k₀ before them
+  pub record Whole (at k : ℕ) : Type 0 where
+    pub value : A
+    pub parsed : x ≡ ok value at (drop at ws)
+    pub inside : at ≤ length ws
+    pub few : k ≤ at
+    pub counted : k ≡ k₀ + length (rowsOf value)
+    pub stored : after ≡ storeRows before k₀ (rowsOf value)
+
+  abbrev Parsed : Part → Type 0
+  Parsed (part.Done at k) = Whole at k
+  Parsed (part.Refused n p) = x ≡ refuse n p
+
+  pub record PartOf (r : Part) : Type 0 where
+    pub part : Parsed r
+
 -- of rows that are read
 abbrev pub Scanned : {E A : Type 0} → (A → List Row) → Result E A → ℕ → List ℕ → Answer → List ℕ → Type 0
 Scanned = ScannedBy reading

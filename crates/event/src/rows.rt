@@ -1,5 +1,6 @@
 // Rows in a lent buffer, four elements each.
 use crate::Row;
+ghost use Prim.Native.Nat.{_-_, min};
 ghost use mathlib.Core.Path.{_≡_};
 ghost use denote.Ref.{now};
 ghost use Rattle.event.specs.Rows.{storeRow};
@@ -37,4 +38,15 @@ pub fn row_at(rows: &[u32], at: usize) -> Row
         channel: 0,
         datum: 0,
     }
+}
+
+// How many of `n` rows from row `at` on fit so much room.
+pub fn fitting(n: usize, at: usize, room: usize) -> usize
+    ensures { λ r. ⌜ r ≡ min n (room - at) ⌝ }
+{
+    if room <= at {
+        return 0;
+    }
+    let free = room - at;
+    if n < free { n } else { free }
 }

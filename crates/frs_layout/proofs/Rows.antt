@@ -37,7 +37,8 @@ pub codes-scaler : Codes any scaler scalerRows ValidScalers
 codes-scaler = same
     (codes-bind length (codes-row (ofKind 17) _ scalerBlockRow (countChecks 22) (λ n. tt) (λ n g. refl))
     (λ n g. codes-times nextIndex (λ i. codes-row (ofKind 18) (λ r. r .datum) (scalerRow i) (scalerChecks 22) (λ v. tt) (λ v g. refl)) n 0) (λ n vs g. g .0))
-    (λ vs g. (g .0, goods-all GoodScaler nextIndex 0 vs (g .1 .1))) (λ vs g. (g .0, (refl, all-goods GoodScaler nextIndex 0 vs (g .1)))) (λ vs g. ap (scalerBlockRow (length vs) ∷_) (prints-scalers 0 vs))
+    (λ vs g. (g .0, goods-all GoodScaler nextIndex 0 vs (g .1 .1))) (λ vs g. (g .0, (refl, all-goods GoodScaler nextIndex 0 vs (g .1))))
+    (λ vs g. ap (scalerBlockRow (length vs) ∷_) (prints-scalers 0 vs))
 
 -- modules: the first row, then the values
 abbrev headerIn : Module → Header

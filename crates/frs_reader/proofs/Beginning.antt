@@ -13,7 +13,7 @@ use borrow.Author.Tests.{eq-eqb, ne-eqb, eqb-true, lt-ltb, le-leb, lt-leb}
 use Rattle.event.specs.Parser.{Result, ok, refuse, Passed, ended, filled, alone, All}
 use Rattle.event.specs.Words.{halves}
 use Rattle.event.specs.Rows.{storeRow}
-use Rattle.event.specs.Scanning.{storeRows}
+use Rattle.event.specs.Scanning.{storeRows, PartOf}
 use Rattle.event.proofs.Codes.{true-T}
 use Rattle.event.proofs.Ends.{ends-many}
 use Rattle.event.proofs.Loops.{to-the-end, at-end}
@@ -24,7 +24,7 @@ use Rattle.frs_layout.specs.Reading.{stamp, blockOf, scalerValue, scalerValues,
 use Rattle.frs_layout.proofs.RowCount.{scaler-count}
 use Rattle.frs_layout.proofs.Words.{codes-scalerValues}
 use Rattle.event.specs.declared.Part.the-variants.{Done}
-use Rattle.frs_reader.specs.Beginning.{stampFault, stampAt, PartOf}
+use Rattle.frs_reader.specs.Beginning.{stampFault, stampAt}
 use Rattle.frs_reader.proofs.Blocks.{block-short, values-read}
 use Rattle.frs_reader.proofs.Judged.{under-judged}
 

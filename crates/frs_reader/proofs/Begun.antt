@@ -12,14 +12,14 @@ use Rattle.event.specs.declared.Answer.the-variants as answer
 use Rattle.event.specs.Parser.{ok, ended, optionally, many, each, ifAny}
 use Rattle.event.specs.Words.{between}
 use Rattle.event.specs.Rows.{storeRow}
-use Rattle.event.specs.Scanning.{storeRows, Scanned}
+use Rattle.event.specs.Scanning.{storeRows, Scanned, PartOf}
 use Rattle.event.proofs.Elements.{is-between}
 use Rattle.event.proofs.Leads.{leads-part, store-append, scanned-refuse, begins-refused, begins-done}
 use Rattle.frs_layout.specs.Layout.{stampRow, scalerRows, patternRows, moduleRows, rows, geos, smallestEvent, largestEvent}
 use Rattle.frs_layout.specs.Reading.{stamp, scaler, patternUnit, atPattern, oneModule, eventParser}
 use Rattle.event.specs.declared.Part.{Part}
 use Rattle.event.specs.declared.Part.the-variants.{Done, Refused}
-use Rattle.frs_reader.specs.Beginning.{stampFault, stampAt, PartOf, Begins}
+use Rattle.frs_reader.specs.Beginning.{stampFault, stampAt, Begins}
 use Rattle.frs_reader.proofs.Beginning.{stamp-judged}
 
 module _ (ws : List ℕ) where

@@ -5,5 +5,4 @@ pub mod Beginning
 pub mod PatternUnit
 pub mod Begun
 pub mod Modules
-pub mod Values
 pub mod Scans

@@ -13,6 +13,7 @@ use lib.Seq.{slice, slice-empty}
 use borrow.Author.Tests.{eq-eqb, ne-eqb}
 use Rattle.event.specs.declared.Row.{Row}
 use Rattle.event.specs.Parser.{Result, ok, refuse, then, give, filled, within, optionally, ifAny}
+use Rattle.event.specs.Scanning.{PartOf}
 use Rattle.event.specs.Words.{halves}
 use Rattle.event.specs.Rows.{storeRow}
 use Rattle.event.proofs.Loops.{to-the-end, within-slice, within-short}
@@ -22,7 +23,6 @@ use Rattle.frs_layout.specs.Layout.{patternRow, patternRows}
 use Rattle.frs_layout.specs.Reading.{patternBody, patternUnit, atPattern}
 use Rattle.event.specs.declared.Part.{Part}
 use Rattle.event.specs.declared.Part.the-variants.{Done, Refused}
-use Rattle.frs_reader.specs.Beginning.{PartOf}
 use Rattle.frs_reader.proofs.Judged.{under-judged}
 
 module _ (ws : List ℕ) (at : ℕ) where

@@ -8,7 +8,7 @@ use mathlib.Core.Bool.{cond}
 use mathlib.Core.List.{List, [], _∷_, map, append-nil}
 use lib.Dec.{eqb}
 use lib.ListN.{length, getD, drop, length-map}
-use lib.Seq.{slice, length-slice}
+use lib.Seq.{slice, slice-empty, length-slice}
 use borrow.Author.Tests.{ne-eqb}
 use Rattle.event.specs.declared.Answer.{Answer}
 use Rattle.event.specs.declared.Answer.the-variants as answer
@@ -23,6 +23,7 @@ use Rattle.event.proofs.Elements.{each-map}
 use Rattle.event.proofs.Ends.{ends-many}
 use Rattle.event.proofs.Impossible.{impossible}
 use Rattle.event.proofs.Leads.{refused-scan}
+use Rattle.event.proofs.RowStores.{length-rows, stored-more}
 use Rattle.event.proofs.Loops.{to-the-end, at-end}
 use Rattle.event.proofs.Turns.{Reached, begin, stop, step}
 use Rattle.frs_layout.specs.Event.{Value, Module, empty, withData}
@@ -32,11 +33,10 @@ use Rattle.frs_layout.proofs.Words.{codes-value, codes-values, codes-module, no
 use Rattle.frs_reader.specs.declared.Opened.{Opened}
 use Rattle.frs_reader.specs.declared.Opened.the-variants.{Empty, Block, Refused}
 use Rattle.frs_reader.specs.Longword.{valueFault, footerFault}
-use Rattle.frs_reader.specs.Modules.{openedOf, rowsOpened, openedRows, storedValues}
+use Rattle.frs_reader.specs.Modules.{openedOf, rowsOpened, openedRows}
 use Rattle.frs_reader.proofs.Blocks.{values-refused, values-read}
 use Rattle.frs_reader.proofs.Judged.{value-judged, footer-judged}
 use Rattle.frs_reader.proofs.Modules.{Opens, opens}
-use Rattle.frs_reader.proofs.Values.{length-values}
 
 abbrev valueRows : ℕ → Value → List Row
 valueRows g v = valueRow g v ∷ []
@@ -56,30 +56,30 @@ module _ {g set : ℕ} {ws : List ℕ} {end i₀ k₀ i k : ℕ} {b₀ b : List 
       channel-taken (value g) (λ v. v .channel) (valueRow g) (codes-value g) h below long e (valueFault g set w) (valueOf w) (λ r. value-judged (h .holds) i r g w)
       f (s ∙ ap (insert set) low)
 
+-- the row of a data longword
+abbrev rowOf : (g w : ℕ) → Row
+rowOf g w = valueRow g (valueOf w)
+
 -- the data longwords from `first` up to i are good: with their rows stored, from row k of the buffer on, the loop has reached i
 pub record ValuesTo (g set : ℕ) (ws : List ℕ) (end first k : ℕ) (b : List ℕ) (i : ℕ) : Type 0 where
   pub from : first ≤ i
-  pub reached : Values g set ws end first k b i (k + (i - first)) (storedValues g ws first k b (i - first))
+  pub reached : Values g set ws end first k b i (k + (i - first)) (storeRows b k (map (rowOf g) (slice first i ws)))
 
 pub values-begin : {g : ℕ} {ws : List ℕ} {end first k : ℕ} {b : List ℕ} → first ≤ end → k ≤ first → ValuesTo g 0 ws end first k b first
-unfolding storedValues
-values-begin {first = first} l m =
+values-begin {ws = ws} {first = first} l m =
     let none : first - first ≡ 0 = omega arith in
-    record { from = omega arith; reached = rw (none, add-zero) (begin blocked-none l m) }
+    record { from = omega arith; reached = rw (none, add-zero, slice-empty first ws) (begin blocked-none l m) }
 
 module _ {g set : ℕ} {ws : List ℕ} {end first k i : ℕ} {b : List ℕ} (h : ValuesTo g set ws end first k b i) where
   pub values-next : i < end → end ≤ length ws → {w channel set′ : ℕ} → w ≡ getD ws i 0 → 0 ≡ valueFault g set w → channel ≡ w / 2 ^ 16 % 2 ^ 5 → set′ ≡ insert set (channel % 32)
       → ValuesTo g set′ ws end first k b (i + 1)
-  unfolding storedValues
   values-next below long {w} e f c s =
-      let m = i - first in
-      let more : i + 1 - first ≡ suc m = omega (arith, h .from) in
-      let there : first + m ≡ i = omega (arith, h .from) in
-      let counted : k + suc m ≡ k + m + 1 = omega arith in
-      let z = length-values g ws first k b in
+      let counted : k + (i + 1 - first) ≡ k + (i - first) + 1 = omega (arith, h .from) in
+      let more = stored-more (rowOf g) ws first k b i (h .from) (omega arith) in
+      let z : (j : ℕ) → length (storeRows b k (map (rowOf g) (slice first j ws))) ≡ length b = λ j. length-rows (map (rowOf g) (slice first j ws)) b k in
       record {
         from = omega (arith, h .from);
-        reached = rw (more, counted) (value-taken (h .reached) below long e f c s (rw (there, ← e)) (z (suc m) ∙ sym (z m)));
+        reached = rw counted (value-taken (h .reached) below long e f c s (more ∙ rw (← e)) (z (i + 1) ∙ sym (z i)));
       }
 
 -- the loop over modules; the set holds the GEOs before
@@ -166,15 +166,16 @@ module _ {set : ℕ} {ws : List ℕ} {i₀ k₀ i k : ℕ} {b₀ b : List ℕ} (
       pub footer-refused : {m : ℕ} (after : List ℕ) → m ≡ footerFault g w → (m ≡ 0 → ⊥) → EndsRefused m end after
       footer-refused {m} after f z = refused-at after (read ∙ rw (← f, ne-eqb m 0 z))
 
-      pub block-taken : {set′ : ℕ} → 0 ≡ footerFault g w → set′ ≡ insert set (g % 32) → k₁ ≡ k + 1 → b₁ ≡ storeRows b k (rowsOpened ws n (Block g end)) → length b₂ ≡ length b
+      pub block-taken : {set′ : ℕ} → 0 ≡ footerFault g w → set′ ≡ insert set (g % 32) → k₁ ≡ k + 1 → b₁ ≡ storeRows b k (rowsOpened ws n (Block g end))
           → Modules set′ ws i₀ k₀ b₀ (end + 1) k₂ b₂
-      block-taken z q p t l =
+      block-taken z q p t =
           let v = good-values s in
           let few = h .few in
           let rest = map (valueRow g) (v .list) in
+          let same = ap length (v .stored) ∙ length-rows rest b₁ k₁ ∙ ap length t ∙ length-rows (rowsOpened ws n (Block g end)) b k in
           let own : storeRow b k (row 21 g n (getD ws end 0 % 2 ^ 16)) ≡ storeRow b k (row 21 g (length (v .list)) (w % 2 ^ 16)) = rw (v .size, e) in
           taken (withData g (v .list) (w % 2 ^ 16)) (read ∙ rw (← z)) refl (o .leads .0) q (omega (arith, o .leads .2)) (omega (arith, v .counted, v .size, o .leads .1))
-          (omega (arith, v .counted, length-map (v .list) (valueRow g))) (v .stored ∙ ap (λ (m : ℕ). storeRows b₁ m rest) p ∙ ap (λ (l : List ℕ). storeRows l (k + 1) rest) (t ∙ own)) l
+          (omega (arith, v .counted, length-map (v .list) (valueRow g))) (v .stored ∙ ap (λ (m : ℕ). storeRows b₁ m rest) p ∙ ap (λ (l : List ℕ). storeRows l (k + 1) rest) (t ∙ own)) same
 
 -- from the first module on
 pub from-start : (ws : List ℕ) (i₀ : ℕ) {k₀ : ℕ} {b₀ : List ℕ} {a : Answer} {after : List ℕ} → Scanned (each moduleRows) (many oneModule geos ended [] i₀ (slice i₀ (length ws) ws)) k₀ b₀ a after

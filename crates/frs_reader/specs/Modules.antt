@@ -1,14 +1,12 @@
 -- What a module's header leads to, as the code finds it (the contracts of private functions).
 -- Assumes nothing.
-use Prim.Native.Nat.{ℕ, zero, suc, _+_, _-_, _/_, _%_, _^_}
+use Prim.Native.Nat.{ℕ, _+_, _-_, _/_, _%_, _^_}
 use mathlib.Core.Bool.{cond}
 use mathlib.Core.List.{List, [], _∷_}
 use lib.Dec.{eqb, leb}
 use lib.ListN.{length, getD}
 use Rattle.event.specs.declared.Row.{Row}
-use Rattle.frs_layout.specs.Layout.{emptyRow, moduleRow, valueRow}
-use Rattle.frs_layout.specs.Reading.{valueOf}
-use Rattle.event.specs.Rows.{storeRow}
+use Rattle.frs_layout.specs.Layout.{emptyRow, moduleRow}
 use Rattle.frs_reader.specs.declared.Opened.{Opened}
 use Rattle.frs_reader.specs.declared.Opened.the-variants.{Empty, Block, Refused}
 use Rattle.frs_reader.specs.Longword.{headerFault}
@@ -31,8 +29,3 @@ rowsOpened ws n (Refused number) = []
 
 abbrev pub openedRows : (ws : List ℕ) (at seen : ℕ) → List Row
 openedRows ws at seen = rowsOpened ws (getD ws at 0 % 2 ^ 6) (openedOf ws at seen)
-
--- the rows of m data longwords from `first` on, stored from row `at` on, each where the buffer has room
-unfoldable pub storedValues : (geo : ℕ) → List ℕ → (first at : ℕ) → List ℕ → ℕ → List ℕ
-storedValues geo ws first at b zero = b
-storedValues geo ws first at b (suc m) = storeRow (storedValues geo ws first at b m) (at + m) (valueRow geo (valueOf (getD ws (first + m) 0)))

@@ -15,10 +15,10 @@ ghost use lib.Seq.{slice};
 ghost use denote.Ref.{now};
 ghost use Rattle.event.specs.Parser.{optionally, ifAny};
 ghost use Rattle.event.specs.Rows.{storeRow};
-ghost use Rattle.event.specs.Scanning.{storeRows};
+ghost use Rattle.event.specs.Scanning.{storeRows, PartOf};
 ghost use Rattle.frs_layout.specs.Layout.{stampRow, scalerRowsFrom, scalerRows, patternRows};
 ghost use Rattle.frs_layout.specs.Reading.{scaler, patternUnit, atPattern};
-ghost use Rattle.frs_reader.specs.Beginning.{stampFault, stampAt, PartOf, Begins};
+ghost use Rattle.frs_reader.specs.Beginning.{stampFault, stampAt, Begins};
 
 // The first wrong longword of the stamp, 4 for none.
 fn stamp_fault(words: &[u32]) -> usize

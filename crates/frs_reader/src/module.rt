@@ -8,16 +8,19 @@ use crate::longword::word;
 use event::Row;
 use event::kind;
 use event::refusal;
+use event::rows::fitting;
 use event::rows::store_row;
-ghost use Prim.Native.Nat.{_-_, _/_, _<_, _≤_, min};
+ghost use Prim.Native.Nat.{_/_, _<_, _≤_};
 ghost use mathlib.Core.Path.{_≡_};
+ghost use mathlib.Core.List.{map};
 ghost use lib.ListN.{length};
+ghost use lib.Seq.{slice};
 ghost use denote.Ref.{now};
 ghost use Rattle.event.specs.Rows.{storeRow};
 ghost use Rattle.event.specs.Scanning.{storeRows};
 ghost use Rattle.frs_layout.specs.Layout.{valueRow};
 ghost use Rattle.frs_layout.specs.Reading.{valueOf};
-ghost use Rattle.frs_reader.specs.Modules.{openedOf, openedRows, storedValues};
+ghost use Rattle.frs_reader.specs.Modules.{openedOf, openedRows};
 
 // Refusals 6, 11 and 5 of the header at `at`; else the module's own row. Its counter stands in the footer, which is judged after the data.
 pub(crate) fn open_module(
@@ -74,7 +77,7 @@ pub(crate) fn store_values(
     at: usize,
 )
     requires { ⌜ (first ≤ end) × (end ≤ length (now words)) ⌝ }
-    ensures { λ _. ⌜ now (rows .exit) ≡ storedValues geo (now (words .entry)) first at (now (rows .entry)) (end - first) ⌝ }
+    ensures { λ _. ⌜ now (rows .exit) ≡ storeRows (now (rows .entry)) at (map (λ w. valueRow geo (valueOf w)) (slice first end (now (words .entry)))) ⌝ }
 {
     let most = fitting(end - first, at, rows.len() / 4);
     let mut i: usize = 0;
@@ -82,17 +85,6 @@ pub(crate) fn store_values(
         store_value(rows, at + i, geo, word(words, first + i));
         i += 1;
     }
-}
-
-// How many of `n` rows from row `at` on fit so much room.
-fn fitting(n: usize, at: usize, room: usize) -> usize
-    ensures { λ r. ⌜ r ≡ min n (room - at) ⌝ }
-{
-    if room <= at {
-        return 0;
-    }
-    let free = room - at;
-    if n < free { n } else { free }
 }
 
 // The row of a data longword. (It fits, so that the loop over them has no test of the room.)

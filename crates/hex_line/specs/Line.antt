@@ -9,15 +9,16 @@ use lib.ListN.{length, getD}
 use Rattle.event.specs.Outcome.{Outcome, done, refused, inWordRoom}
 use Rattle.event.specs.Words.{between}
 use Rattle.dialects.specs.declared.Dialect.{Dialect}
-use Rattle.dialects.specs.declared.Dialect.the-variants.{S, F}
+use Rattle.dialects.specs.declared.Dialect.the-variants.{S, F, R}
 use Rattle.dialects.specs.Dialects.{width}
 
 -- the code of the letter that a line of the dialect begins with
 abbrev pub letter : Dialect → ℕ
 letter S = 83
 letter F = 70
+letter R = 82
 
--- the digits of a word: 4 in dialect S, 8 in F
+-- the digits of a word: 4 in dialects S and R, 8 in F
 abbrev pub digits : Dialect → ℕ
 digits d = width d / 4
 

@@ -42,6 +42,7 @@ fn letter(dialect: Dialect) -> u8
     match dialect {
         Dialect::S => b'S',
         Dialect::F => b'F',
+        Dialect::R => b'R',
     }
 }
 

@@ -10,14 +10,14 @@ use Rattle.event.specs.declared.Row.{Row}
 use Rattle.event.specs.declared.StampOrder.{StampOrder}
 use Rattle.event.specs.Outcome.{Outcome, done, refused, answerOf, accepted, given}
 use Rattle.dialects.specs.declared.Dialect.{Dialect}
-use Rattle.dialects.specs.declared.Dialect.the-variants.{S, F}
+use Rattle.dialects.specs.declared.Dialect.the-variants.{S, F, R}
 use Rattle.dialects.specs.Dialects.{reading, readingInto}
 use Rattle.hex_line.specs.Line.{letter, longestLine, lineWords, lineInto}
 use Rattle.listing.specs.Text.{eventText, lastText}
 
--- a line with the letter of F is of that dialect, and any other is read as one of S, which refuses another letter
+-- a line with the letter of F or R is of that dialect, and any other is read as one of S, which refuses another letter
 abbrev pub lineDialect : List ℕ → Dialect
-lineDialect line = cond (eqb (getD line 0 0) (letter F)) F S
+lineDialect line = cond (eqb (getD line 0 0) (letter F)) F (cond (eqb (getD line 0 0) (letter R)) R S)
 
 -- what is accepted goes on; a refusal stays
 abbrev pub andThen : {A B : Type 0} → (List A → Outcome B) → Outcome A → Outcome B

@@ -44,5 +44,8 @@ fn dialect_of_line(line: &[u8]) -> Dialect
     if line[0] == b'F' {
         return Dialect::F;
     }
+    if line[0] == b'R' {
+        return Dialect::R;
+    }
     Dialect::S
 }

@@ -1,10 +1,10 @@
 -- The ids of regions and the sizes that they allow, as the code looks them up in sets of bits: the layout's, id by id below 32, and none above.
 -- Assumes nothing.
-use Prim.Native.Nat.{ℕ, _%_, _^_, _≤_, _<_}
+use Prim.Native.Nat.{ℕ, _%_, _≤_, _<_}
 use native.Mathlib.Omega.{arith}
 use mathlib.Core.Path.{_≡_, refl, ap, sym, _∙_}
 use mathlib.Core.Bool.{Bool, true, false, cond, not}
-use lib.Dec.{T, eqb, eqb→eq}
+use lib.Dec.{T, eqb}
 use borrow.Author.Tests.{ne-eqb}
 use Rattle.event.specs.Channels.{present}
 use Rattle.event.proofs.Tables.{holdsBelow, holds-below, look-up-past}

@@ -10,7 +10,7 @@ pub const SMALLEST_EVENT: usize = 2;
 
 pub const LARGEST_EVENT: usize = 4096;
 
-// The ids of regions whose words do not all stay opaque (document 003), and of the input register.
+// The ids of regions with rules of their own (document 003).
 pub const INPUT_REGISTER: u32 = 2;
 
 pub const SCALER: u32 = 6;
@@ -25,7 +25,7 @@ const IDS: u32 = 0x7cdc;
 // Of these, those that allow any size: not the input register's and not the scalers'.
 const ANY_SIZE: u32 = 0x7c98;
 
-// An id that a region before the check sum may have.
+// Whether a region before the check sum may have this id.
 pub fn has_form(id: u32) -> bool
     ensures { λ r. ⌜ r ≡ eqb id (idOf (formOf id)) ⌝ }
 {
@@ -35,8 +35,8 @@ pub fn has_form(id: u32) -> bool
     contains(IDS, id)
 }
 
-// Whether a region with this id may have this size: scalers an even one, the input register 1. (An id that no region has is judged as the input register's, as
-// in the definition.)
+// Whether a region before the check sum may have this size, by its id: scalers an even one, the input register 1. (An id that `has_form` does not take is judged
+// as the input register's, as in the definition.)
 pub fn allows_size(id: u32, size: u32) -> bool
     ensures { λ r. ⌜ r ≡ allowedSize (formOf id) size ⌝ }
 {

@@ -1,4 +1,4 @@
--- Readings and writings of dialect R into buffers at the edges of their room, computed: refusals 12 and 24, and what the buffer holds afterwards. The expected answers are document 01's.
+-- Readings and writings of dialect R into buffers at the edges of their room, computed: refusals 12 and 24, and what the buffer holds afterwards. The expected answers are documents 01's and 02's.
 -- Assumes nothing.
 use Prim.Native.Nat.{ℕ}
 use mathlib.Core.Path.{_≡_, refl}

@@ -9,7 +9,7 @@ use Rattle.event.proofs.Elements.{prints-length, each-length, each-shorter}
 use Rattle.rcnp_layout.specs.Event.{Form, inputRegister, scaler, vdc, opaque, Content, Event}
 use Rattle.rcnp_layout.specs.Layout.{scalerWords, contentWords, regionWords, words, scalerRow, nextIndex, contentRows, regionRows, rows}
 
-in-content : (f : Form) (c : Content f) → length (contentRows f c) ≤ length (contentWords f c)
+pub in-content : (f : Form) (c : Content f) → length (contentRows f c) ≤ length (contentWords f c)
 in-content inputRegister w = omega arith
 in-content scaler vs = omega (arith, prints-length (λ i v. scalerRow i v ∷ []) nextIndex 1 (λ i v. refl) 0 vs, each-length scalerWords 2 (λ v. refl) vs)
 in-content vdc xs = simp length-map (omega arith)

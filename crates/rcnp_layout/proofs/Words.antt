@@ -61,7 +61,7 @@ codes-vdc begun = codes-layout 10 vdcOf vdcWord (vdcChecks 10 begun) back
 codes-vdcs : Codes (At ended) (content vdc) (map vdcWord) (ValidContent vdc)
 codes-vdcs = same (codes-many begins codes-vdc ended (λ st x g r. refl) refl false) (λ xs g. g) (λ xs g. g) (λ xs g. prints-map vdcWord begins false xs)
 
-codes-content : (f : Form) → Codes (At ended) (content f) (contentWords f) (ValidContent f)
+pub codes-content : (f : Form) → Codes (At ended) (content f) (contentWords f) (ValidContent f)
 codes-content inputRegister = less codes-word (λ r t. tt)
 codes-content scaler = codes-several ended codes-scaler (λ v g r. refl) refl
 codes-content vdc = codes-vdcs
@@ -97,7 +97,7 @@ codes-sum = codes-here λ p. same
     (λ n g. codes-filling p n (eqb n 1) (less codes-word (λ r t. tt))) (λ n w g. g .1))
     (λ w g. g .1 .0 .1) (λ w g. ((tt, tt), ((tt, g), refl))) (λ w g. refl)
 
-on : (g : Region) → ValidRegion g → (r : List ℕ) → atSum (regionWords g ++ r) ≡ false
+pub on : (g : Region) → ValidRegion g → (r : List ℕ) → atSum (regionWords g ++ r) ≡ false
 on g v r = rw (header-parts (idOf (g .form)) (sizeOf g) (v .0) .0) (not-sum (g .form))
 
 -- one event alone, and one in a run, whose check sum region ends it whatever follows

@@ -4,7 +4,8 @@ use Prim.Native.Nat.{ℕ}
 use mathlib.Core.List.{List, [], _∷_, map}
 use Rattle.event.specs.Parser.{lookUp}
 
--- a word of a VDC region: a module's header, with its bits 13-11 (event number) and 10-8 (edges, resolution), or a datum of the module before it
+-- a word of a VDC region: a module's header, with its bits 13-11 (event number) and 10-8 (the edges and the resolution, `le` and `res` of document 003), or a datum of the
+-- module before it
 pub data VdcWord : Type 0 where
   head : (moduleId eventNumber mode : ℕ) → VdcWord
   datum : (channel time : ℕ) → VdcWord
@@ -50,7 +51,7 @@ idOf (opaque feret) = 14
 abbrev pub sumId : ℕ
 sumId = 15
 
-abbrev pub opaques : List Opaque
+abbrev opaques : List Opaque
 opaques = adc ∷ tdc ∷ pcos ∷ adcLas ∷ tdcLas ∷ fera ∷ feret ∷ []
 
 abbrev pub forms : List Form

@@ -19,7 +19,7 @@ abbrev pub headerWord : (id size : ℕ) → ℕ
 headerWord id size = id * 2 ^ 12 + size
 
 -- a region: its size counts its words and not the header
-abbrev pub headed : (id : ℕ) → List ℕ → List ℕ
+abbrev headed : (id : ℕ) → List ℕ → List ℕ
 headed id ws = headerWord id (length ws) ∷ ws
 
 -- low 16 bits, then the upper 8 bits with zero above

@@ -19,10 +19,10 @@ pub record Header : Type 0 where
   pub form : Form
   pub size : ℕ
 
--- 6: its id is not that of its form
 abbrev pub headerOf : ℕ → Header
 headerOf w = record { form = formOf (w / 2 ^ 12); size = w % 2 ^ 12 }
 
+-- 6: no form has its id
 abbrev pub header : Parser ℕ Header
 header = layout 6 headerOf (λ h. headerWord (idOf (h .form)) (h .size)) (λ h. sizeChecks 6 (h .size))
 

@@ -29,7 +29,7 @@ vdcStands begun r = ofKind 35 r || (begun && ofKind 36 r)
 abbrev pub vdcValue : (begun : Bool) → Parser Row VdcWord
 vdcValue begun = rowWith (vdcStands begun) vdcOf vdcRow (vdcChecks 22 begun)
 
--- as many rows as words that the size says follow; two words for a scaler
+-- as many rows follow as the size says words; a scaler is two words
 abbrev pub content : (f : Form) → (size : ℕ) → Parser Row (Content f)
 content inputRegister size = word
 content scaler size = times scalerAt nextIndex (size / 2) 0

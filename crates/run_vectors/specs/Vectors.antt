@@ -27,7 +27,7 @@ mostElements = 16800
 
 -- CALL of a head line = the number of the call (0 = write, 1 = read) × how many dialects there are + the number of the dialect
 abbrev dialectCount : ℕ
-dialectCount = 2
+dialectCount = 3
 
 abbrev pub callNumber : ℕ → ℕ
 callNumber n = n / dialectCount

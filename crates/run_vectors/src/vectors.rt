@@ -1,6 +1,6 @@
 // A vector of the input: a head line `CALL ORDER ROOM CUT RUNS`, then a line `REPEAT A B C D` for each run of the elements that go in:
 // the four elements A B C D, so many times. The last CUT elements are left out. The elements are those of rows for a writing, and words
-// for a reading; each four of them are stored as a row is. CALL / 2: 0 = write, 1 = read; CALL % 2, the dialect: 0 = S, 1 = F.
+// for a reading; each four of them are stored as a row is. CALL / 3: 0 = write, 1 = read; CALL % 3, the dialect: 0 = S, 1 = F, 2 = R.
 // ORDER: 0 = crossed, 1 = rising.
 use crate::lines::LINE_BYTES;
 use crate::lines::Line;
@@ -21,7 +21,7 @@ ghost use Rattle.run_vectors.specs.Vectors.{callOf, headHolds, allWords1
 // The most elements that go in, and the most that are lent.
 pub(crate) const MOST_ELEMENTS: usize = 16800;
 // How many dialects there are: CALL / DIALECTS is the call, CALL % DIALECTS the dialect.
-const DIALECTS: u32 = 2;
+const DIALECTS: u32 = 3;
 
 pub enum Call {
     Write,

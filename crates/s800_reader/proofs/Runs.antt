@@ -18,7 +18,7 @@ use Rattle.event.specs.Rows.{row, storeRow}
 use Rattle.event.specs.Scanning.{storeRows, Scanned}
 use Rattle.event.proofs.ChannelLaws.{blocked-more}
 use Rattle.event.proofs.ChannelTurns.{onFault}
-use Rattle.event.proofs.Turns.{Reached, at-word, step, stop}
+use Rattle.event.proofs.Turns.{Reached, at-two, read-below, step, stop}
 use Rattle.s800_format.proofs.Formats.{pairFormat, pair-format}
 use Rattle.s800_layout.specs.Event.{ChannelFormat, pairEnergy}
 use Rattle.s800_layout.specs.Layout.{channelWord, sampleHeadWord, sampleDatumWord, sampleRow, pairRows, pairChannels}
@@ -28,7 +28,7 @@ use Rattle.s800_reader.specs.Channel.{faultOf, opaqueRows, sampleRows, s
 use Rattle.s800_reader.proofs.Channels.{judged}
 
 pub read-whole : (ws : List ℕ) (i end : ℕ) → i < end → end ≤ length ws → getD ws i 0 < 2 ^ 16 → whole i (slice i end ws) ≡ ok (getD ws i 0) (i + 1) (slice (i + 1) end ws)
-read-whole ws i end h l f = rw (at-word ws i end h l, eq-eqb (getD ws i 0) (getD ws i 0) refl, lt-ltb (getD ws i 0) (2 ^ 16) f, add-one i)
+read-whole = read-below 10 (2 ^ 16)
 
 abbrev pub Opaques : List ℕ → ℕ → ℕ → ℕ → List ℕ → ℕ → ℕ → List ℕ → Type 0
 Opaques ws end = Reached (λ u. whole) alone opaqueRows (λ u. Unit {0}) ws end tt
@@ -39,13 +39,6 @@ module _ {ws : List ℕ} {end i₀ k₀ i k : ℕ} {b₀ b b′ : List ℕ} (h :
   opaque-step q z =
       let few = h .few in
       step (λ u. codes-whole) (λ u a g r. refl) h below long (read-whole ws i end below long (rw e at fits)) tt (omega arith) (omega arith) refl (rw e at q) z
-
--- two words below the end
-at-two : (ws : List ℕ) (i end : ℕ) {v w : ℕ} → i + 1 < end → end ≤ length ws → v ≡ getD ws i 0 → w ≡ getD ws (i + 1) 0
-    → slice i end ws ≡ v ∷ w ∷ slice (i + 2) end ws
-at-two ws i end {v} {w} h l p q =
-    let two : suc (suc i) ≡ i + 2 = omega arith in
-    at-word ws i end (omega arith) l ∙ rw (← p) (ap (v ∷_) (at-word ws (suc i) end (omega arith) l ∙ rw (two, q, add-one i)))
 
 -- a sample of two words
 module _ (i v w : ℕ) (r : List ℕ) where

@@ -3,7 +3,7 @@
 use super::layout::{flag, kind, HEADER_FLAG};
 use super::make::module_geos;
 use crate::base::{Answer, Row};
-use crate::dialects::{marks, Mark, Marks};
+use crate::dialects::{marks, Mark, Marks, Special};
 
 /// The marks of an acceptable event.
 pub fn add(_: &[u32], rows: &[Row], marks: &mut Marks) {
@@ -40,8 +40,15 @@ pub fn wanted() -> Vec<Mark> {
     wanted
 }
 
+const UNFINISHED: &str = "11 where the block does not fit";
+
+pub const SPECIAL: Special = Special {
+    names: &[UNFINISHED],
+    name_of: |words, answer| is_unfinished(words, answer).then_some(UNFINISHED),
+};
+
 /// Is it 11 at a module's header whose block does not fit?
-pub fn is_unfinished(words: &[u32], answer: Answer) -> bool {
+fn is_unfinished(words: &[u32], answer: Answer) -> bool {
     let Err(refusal) = answer else { return false };
     let rest = words.get(refusal.place as usize..).unwrap_or(&[]);
     let is_header = rest.first().is_some_and(|&word| flag(word) == HEADER_FLAG);

@@ -28,10 +28,12 @@ pub static DIALECT: Dialect = Dialect {
         lists: rows::lists,
         too_many: None,
     },
+    mend: None,
     wanted: Wanted {
         reading: &[1, 5, 6, 9, 10, 11],
         writing: &[20, 21, 22, 24],
-        special: &[UNFINISHED],
+        special: marks::SPECIAL,
+        special_writing: Special::NONE,
         add_marks: marks::add,
         marks: marks::wanted,
     },
@@ -40,9 +42,6 @@ pub static DIALECT: Dialect = Dialect {
     check_cases: spoken::check,
 };
 
-const UNFINISHED: Special =
-    Special { name: "11 where the block does not fit", is_met: marks::is_unfinished };
-
 static FUNCTIONS: Functions<u32> = Functions {
     rows_of: read::rows_of,
     words_of: write::words_of,
@@ -50,6 +49,7 @@ static FUNCTIONS: Functions<u32> = Functions {
     mixed: make::mixed,
     smallest: make::smallest,
     large: make::largest,
+    opaque: None,
     damaged: damage::damaged,
     resized: damage::resized,
     edges: edges::edges,

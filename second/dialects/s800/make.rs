@@ -2,6 +2,7 @@
 
 use super::read::{LARGEST_EVENT, SMALLEST_EVENT};
 use super::tags;
+use crate::dialects::OPAQUE_WORDS;
 use crate::rng::Rng;
 
 /// A packet's words, its length word first.
@@ -47,6 +48,13 @@ pub fn large(rng: &mut Rng) -> Vec<Packet> {
     packets.push(packet_of(rng, tags::ION_CHAMBER));
     packets.push(crdc_packet(rng, 128));
     packets.push(crdc_packet(rng, 128));
+    packets
+}
+
+/// All but 16 words are opaque.
+pub fn opaque(rng: &mut Rng) -> Vec<Packet> {
+    let mut packets = smallest(rng);
+    packets.push(packet(tags::OPAQUE[0], &whole_words(rng, OPAQUE_WORDS)));
     packets
 }
 

@@ -12,7 +12,7 @@ mod tags;
 mod two_faults;
 mod write;
 
-use super::{Dialect, Functions, Native, Rows, Wanted};
+use super::{Dialect, Functions, Native, Rows, Special, Wanted};
 use crate::generate::damage_rows::FIELD_LIMITS;
 
 pub static DIALECT: Dialect = Dialect {
@@ -28,10 +28,12 @@ pub static DIALECT: Dialect = Dialect {
         lists: rows::lists,
         too_many: Some(rows::too_many),
     },
+    mend: None,
     wanted: Wanted {
         reading: &[1, 2, 3, 4, 5, 6, 7, 8, 9, 10, 11],
         writing: &[20, 21, 22, 23, 24],
-        special: &[],
+        special: Special::NONE,
+        special_writing: Special::NONE,
         add_marks: marks::add,
         marks: marks::wanted,
     },
@@ -47,6 +49,7 @@ pub static FUNCTIONS: Functions<u16> = Functions {
     mixed: make::mixed,
     smallest: make::smallest,
     large: make::large,
+    opaque: Some(make::opaque),
     damaged: damage::damaged,
     resized: damage::resized,
     edges: edges::edges,

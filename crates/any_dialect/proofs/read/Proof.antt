@@ -3,11 +3,30 @@ use borrow.Author.Needs.{needs}
 use Rattle.any_dialect.proofs.read.Statement.{statement}
 use Rattle.any_dialect.proofs.read.Tie as tie
 
-returns : tie.Need-returns
-returns c = rw (c .before .before .before .before .enum-told .given .1) (c .before .before .read .ensures)
+-- what each dialect's reader gives
+s-given : tie.Need-returns
+s-given c = rw (c .before .before .before .before .enum-told .given .1) (c .before .before .read .ensures)
 
-returns-2 : tie.Need-returns-2
-returns-2 c = rw (c .before .before .before .before .enum-told2 .given .1) (c .before .before .read2 .ensures)
+f-given : tie.Need-returns-2
+f-given c = rw (c .before .before .before .before .enum-told2 .given .1) (c .before .before .read2 .ensures)
 
+r-given : tie.Need-returns-3
+r-given c = rw (c .before .before .before .before .enum-told3 .given .1) (c .before .before .read3 .ensures)
+
+-- a dialect that is told, and a call that asks nothing, three times; then the rows' length, which stays, and what was given
 pub read-spec : {M : Type 1} → statement M
-read-spec = tie.close (tie.spec (λ c. search needs) (λ c κs. search needs) (λ c. search needs) (λ c κs. search needs) (λ c. search needs) returns (λ c. search needs) returns-2)
+read-spec =
+    tie.close
+    (tie.spec
+    (λ c. search needs)
+    (λ c κs. search needs)
+    (λ c. search needs)
+    (λ c κs. search needs)
+    (λ c. search needs)
+    (λ c κs. search needs)  -- R's reader asks nothing
+    (λ c. search needs)
+    s-given
+    (λ c. search needs)
+    f-given
+    (λ c. search needs)  -- R keeps the length
+    r-given)

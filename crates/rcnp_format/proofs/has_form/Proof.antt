@@ -1,6 +1,5 @@
 -- `has_form` meets its contract. Assumes nothing.
-use native.Mathlib.Omega.{arith}
-use mathlib.Core.Path.{sym, _∙_}
+use mathlib.Core.Path.{sym}
 use borrow.Author.Needs.{needs}
 use Rattle.rcnp_format.proofs.Ids.{no-form-id, form-looked-up}
 use Rattle.rcnp_format.proofs.has_form.Statement.{statement}

@@ -5,7 +5,6 @@ use Prim.Native.Nat.{_-_, _^_, _<_}
 use lib.ListN.{length}
 use Rattle.event.proofs.ChannelLaws.{blocked-none}
 use Rattle.event.proofs.Turns.{begin, finish}
-use Rattle.frs_reader.proofs.Values.{length-values}
 use Rattle.frs_reader.proofs.Scans.{ValuesTo, values-begin, values-next, value-refused, Modules, opened, opened-rows, opening-refused, empty-taken, block-refused, footer-refused, block-taken, from-start}
 use borrow.Author.Needs.{needs}
 use Rattle.frs_reader.proofs.scan.modules.Statement.{statement}
@@ -55,7 +54,7 @@ blocks2-again-2 c =
     let o = (opened (c .before .before .before .before .before .before .before .before .before .before .before .before .before .before .before .before .before .before .blocks2 .inv) (c .before .before .before .before .before .before .before .before .before .before .before .before .before .before .before .before .before .if1 .left) (λ j. omega (arith, c .before .before .before .before .before .before .before .before .before .before .before .before .before .before .before .before .before .before .before .before .shared-slice-known .given j)) (c .before .before .before .before .before .before .before .before .before .before .before .before .before .before .before .open-module .ensures .0) (c .before .before .before .before .before .before .before .before .before .before .before .opened3 .given .1)) in
     let e : c .before .before .before .before .before .before .before .before .loop .at ≡ c .before .before .before .before .before .before .before .before .before .before .before .opened3 .given .0 .1 .0 = omega (arith, v .0 .reached .inside) in
     rw (e, c .before .before .store-values .ensures) (block-taken (c .before .before .before .before .before .before .before .before .before .before .before .before .before .before .before .before .before .before .blocks2 .inv) (c .before .before .before .before .before .before .before .before .before .before .before .before .before .before .before .before .before .if1 .left) o (rw e at (finish (v .0 .reached) (c .before .before .before .before .before .before .before .loop-test .left))) (rw e at (c .before .before .before .before .before .before .word2 .ensures)) (sym (c .before .before .before .before .if3 .left) ∙ c .before .before .before .before .before .footer-fault .ensures)
-    (c .before .before .before .before .before .before .before .before .before .with-channel2 .ensures) refl (opened-rows (c .before .before .before .before .before .before .before .before .before .before .before .before .before .before .before .before .before .before .blocks2 .inv) (c .before .before .before .before .before .before .before .before .before .before .before .before .before .before .before .before .before .if1 .left) (c .before .before .before .before .before .before .before .before .before .before .before .before .before .before .before .open-module .ensures .0) (c .before .before .before .before .before .before .before .before .before .before .before .opened3 .given .1) (c .before .before .before .before .before .before .before .before .before .before .before .before .before .before .before .open-module .ensures .1)) (length-values _ _ _ _ _ _ ∙ c .before .before .before .before .before .before .before .before .before .before .before .before .before .before .before .open-module .kept .1 .1 .1 .0))
+    (c .before .before .before .before .before .before .before .before .before .with-channel2 .ensures) refl (opened-rows (c .before .before .before .before .before .before .before .before .before .before .before .before .before .before .before .before .before .before .blocks2 .inv) (c .before .before .before .before .before .before .before .before .before .before .before .before .before .before .before .before .before .if1 .left) (c .before .before .before .before .before .before .before .before .before .before .before .before .before .before .before .open-module .ensures .0) (c .before .before .before .before .before .before .before .before .before .before .before .opened3 .given .1) (c .before .before .before .before .before .before .before .before .before .before .before .before .before .before .before .open-module .ensures .1)))
 
 returns : tie.Need-returns Inv-loop μ-loop Inv-blocks2 μ-blocks2
 returns c = from-start (c .before .before .before .before .args .words .now) (c .before .before .before .before .args .start) (finish (c .before .blocks2 .inv) (c .if1 .taken))

@@ -4,4 +4,4 @@ use Rattle.hex_line.proofs.line.letter.Statement.{statement}
 use Rattle.hex_line.proofs.line.letter.Tie as tie
 
 pub letter-spec : {M : Type 1} → statement M
-letter-spec = tie.close (tie.spec (λ c. search needs) (λ c. search needs) (λ c. search needs) (λ c. search needs))
+letter-spec = tie.close (tie.spec (λ c. search needs) (λ c. search needs) (λ c. search needs) (λ c. search needs) (λ c. search needs) (λ c. search needs))
