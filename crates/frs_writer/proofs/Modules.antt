@@ -16,7 +16,7 @@ use Rattle.event.specs.Channels.{insert, Blocked}
 use Rattle.event.specs.Writing.{noRow}
 use Rattle.event.specs.Scanning.{Writes}
 use Rattle.event.proofs.ChannelLaws.{blocked-more}
-use Rattle.event.proofs.PartTurns.{parts-done, rows-left, part-refused, part-within, part-taken}
+use Rattle.event.proofs.PartTurns.{parts-done, part-refused, part-within, part-taken}
 use Rattle.event.proofs.RowJudged.{rows-from}
 use Rattle.event.proofs.Turns.{upToStop}
 use Rattle.event.proofs.WritingTurns.{WritesOn}
@@ -53,14 +53,14 @@ module _ {rs : List Row} {set first laid i k : ℕ} {b₀ b : List ℕ} (h : Mod
 
   module _ (below : i < length rs) {start : ℕ} (s : start ≡ min k (length b)) {part : List ℕ} {written : Part} (w : WritesModule set rs i (take (length b - start) (drop start b)) written part) where
     pub module-refused : {n p : ℕ} {r : Part} (after : List ℕ) → written ≡ Refused n p → r ≡ Refused n p → Written r after
-    module-refused after q z = rw z (part-refused 32 ended refl codes-module (λ m l. tt) (λ l t. tt) go-on few-words h (rows-left rs i below) s refl (w .writes (h .state) (h .holds)) after q)
+    module-refused after q z = rw z (part-refused 32 codes-module (λ m l. tt) tt go-on few-words h below s refl (w .writes (h .state) (h .holds)) after q)
 
     module _ {j n : ℕ} (q : written ≡ Done j n) where
       pub module-within : (j ≤ length rs) × (i < j) × (k + n ≤ 4 * j)
-      module-within = part-within 32 ended refl codes-module (λ m l. tt) (λ l t. tt) go-on few-words h (rows-left rs i below) s refl (w .writes (h .state) (h .holds)) q
+      module-within = part-within 32 codes-module (λ m l. tt) tt go-on few-words h below s refl (w .writes (h .state) (h .holds)) q
 
       pub module-taken : {r : Row} {set′ : ℕ} → r ≡ getD rs i noRow → set′ ≡ insert set (r .unit % 32) → Modules rs set′ first laid b₀ j (k + n) (putMid start (length b - start) b part)
-      module-taken {r} {set′} e t = part-taken 32 ended refl codes-module (λ m l. tt) (λ l t. tt) go-on few-words h (rows-left rs i below) s refl (w .writes (h .state) (h .holds)) q seen refl
+      module-taken {r} {set′} e t = part-taken 32 codes-module (λ m l. tt) tt go-on few-words h below s refl (w .writes (h .state) (h .holds)) q seen refl
         where
           seen : (m : Module) (l : List Row) → ValidModule (h .state) m → drop i rs ≡ moduleRows m ++ l → Blocked 0 set′ (geos (h .state) m)
           seen m l v z =

@@ -1,33 +1,30 @@
--- The whole event: its regions, the check sum region in its part of the words, and its sum. Over plain values.
+-- The whole event: its regions and the check sum region, judged, its sum, and its words. Over plain values.
 -- Assumes nothing.
-use Prim.Native.Nat.{ℕ, _+_, _*_, _-_, _%_, _≤_, min}
+use Prim.Native.Nat.{ℕ, _+_, _*_, _-_, _%_, _≤_}
 use native.Mathlib.Omega.{arith}
 use mathlib.Core.Path.{_≡_, refl, sym, ap, _∙_}
 use mathlib.Core.Bool.{false}
 use mathlib.Core.List.{List, [], _∷_, _++_, append-nil}
 use lib.Dec.{eqb}
-use lib.ListN.{length, take, drop, length-append}
+use lib.ListN.{length, drop, length-append}
 use borrow.Author.Tests.{eq-eqb, ne-eqb}
-use borrow.Rule.Slice.PartMut.{putMid}
 use Rattle.event.specs.declared.Answer.{Answer}
 use Rattle.event.specs.declared.Answer.the-variants as answer
 use Rattle.event.specs.declared.Part.{Part}
 use Rattle.event.specs.declared.Part.the-variants.{Done, Refused}
 use Rattle.event.specs.declared.Row.{Row}
 use Rattle.event.specs.Parser.{Result, ok, refuse, Parser, then, _>>=_, _>>_, give, finish, lastly, several, each}
-use Rattle.event.specs.Words.{storeWord}
 use Rattle.event.specs.Outcome.{inWordRoom}
 use Rattle.event.specs.Writing.{rowsIn}
 use Rattle.event.specs.Demands.{InWidth}
-use Rattle.event.specs.Scanning.{storeWords, ScannedBy, writingAll, Writes}
+use Rattle.event.specs.Scanning.{storeWords, ScannedBy, writingAll}
 use Rattle.event.proofs.Codes.{nil, codes-finish}
 use Rattle.event.proofs.Elements.{codes-several}
 use Rattle.event.proofs.Ends.{placed}
 use Rattle.event.proofs.Impossible.{impossible}
-use Rattle.event.proofs.Leads.{Taken, store-append, scanned-refuse, refused-scan, accepted-scan}
+use Rattle.event.proofs.Leads.{Taken, scanned-refuse, refused-scan, accepted-scan}
 use Rattle.event.proofs.Stores.{Gives, write-refused}
 use Rattle.event.proofs.Turns.{lastly-holds, lastly-fails, lastly-taken}
-use Rattle.event.proofs.WordStores.{part-written, past-the-end}
 use Rattle.event.proofs.WritingTurns.{Wrote, wrote, unwritten}
 use Rattle.rcnp_layout.specs.Event.{Region, Event}
 use Rattle.rcnp_layout.specs.Layout.{regionWords, sumWords, words, total, summed, regionRows, sumRows, rows, largestEvent}
@@ -36,8 +33,9 @@ use Rattle.rcnp_layout.proofs.Event.{ends-parts}
 use Rattle.rcnp_layout.proofs.Rows.{codes-region, codes-sum, codes-parts, codes-one}
 use Rattle.rcnp_layout.proofs.Sizes.{not-sum}
 use Rattle.rcnp_layout.proofs.Width.{words-fit}
-use Rattle.rcnp_writer.specs.Parts.{lastRegion}
+use Rattle.rcnp_writer.specs.Parts.{Counts, lastRegion}
 use Rattle.rcnp_writer.specs.RowWords.{rowWords}
+use Rattle.rcnp_writer.proofs.Contents.{none}
 use Rattle.rcnp_writer.proofs.RowTotals.{words-of-rows}
 
 abbrev parts : Parser Row Event
@@ -64,18 +62,18 @@ sum-of-last i l {w} {j} {r} e = go (sumRegion i l) e
     go (ok v k []) e = e
     go (ok v k (y ∷ t)) e = impossible cc
 
-module _ {rs : List Row} {before b : List ℕ} {first : Part} (w : Writes 16 (each regionWords) (several region atSum 0 rs) rs 0 before first b) where
-  abbrev Laid : Answer → List ℕ → Type 0
-  Laid = ScannedBy (writingAll 16) words (parts 0 rs) 0 before
+module _ {rs : List Row} {first : Part} (w : Counts (each regionWords) (several region atSum 0 rs) rs 0 first) where
+  abbrev Judged : Answer → Type 0
+  Judged r = ScannedBy (writingAll 16) words (parts 0 rs) 0 [] r []
 
-  pub regions-refused : {n p : ℕ} (after : List ℕ) → first ≡ Refused n p → Laid (answer.Refused n p) after
-  regions-refused after q = scanned-refuse words 0 before after (rw (unwritten 16 (each regionWords) (several region atSum 0 rs) (rw q at (w .scanned))))
+  pub regions-refused : {n p : ℕ} → first ≡ Refused n p → Judged (answer.Refused n p)
+  regions-refused q = scanned-refuse words 0 [] [] (rw (unwritten 16 (each regionWords) (several region atSum 0 rs) (rw q at (w .scanned))))
 
   module _ {at k : ℕ} (q : first ≡ Done at k) where
     pub sum-there : (at ≤ length rs) × (k ≤ 4 * at)
     sum-there = (rw q at w) .within
 
-    these : Wrote 16 (each regionWords) (several region atSum 0 rs) 0 before at k b
+    these : Wrote 16 (each regionWords) (several region atSum 0 rs) 0 [] at k []
     these = wrote 16 (each regionWords) (several region atSum 0 rs) (rw q at (w .scanned))
 
     -- the event from there on
@@ -85,13 +83,12 @@ module _ {rs : List Row} {before b : List ℕ} {first : Part} (w : Writes 16 (ea
         let l = placed (codes-several atSum codes-region (λ g v r. not-sum (g .form)) refl) rs 0 (omega arith) (t .parsed) in
         rw (t .parsed, l .0) (last-then (t .value) at (drop at rs))
 
-    module _ {start : ℕ} (s : start ≡ min k (length b)) {part part′ : List ℕ} (lent : part ≡ take (length b - start) (drop start b)) {x : Part}
-        (v : Writes 16 sumWords (lastRegion at (drop at rs)) rs 0 part x part′) where
-      pub last-refused : {n p : ℕ} (after : List ℕ) → x ≡ Refused n p → Laid (answer.Refused n p) after
-      last-refused after e = scanned-refuse words 0 before after (parsed ∙ rw (unwritten 16 sumWords (lastRegion at (drop at rs)) (rw e at (v .scanned))))
+    module _ {x : Part} (v : Counts sumWords (lastRegion at (drop at rs)) rs 0 x) where
+      pub last-refused : {n p : ℕ} → x ≡ Refused n p → Judged (answer.Refused n p)
+      last-refused e = scanned-refuse words 0 [] [] (parsed ∙ rw (unwritten 16 sumWords (lastRegion at (drop at rs)) (rw e at (v .scanned))))
 
       module _ {j n : ℕ} (e : x ≡ Done j n) where
-        last : Wrote 16 sumWords (lastRegion at (drop at rs)) 0 part j n part′
+        last : Wrote 16 sumWords (lastRegion at (drop at rs)) 0 [] j n []
         last = wrote 16 sumWords (lastRegion at (drop at rs)) (rw e at (v .scanned))
 
         pub event-few : k + n ≤ 4 * length rs
@@ -99,29 +96,31 @@ module _ {rs : List Row} {before b : List ℕ} {first : Part} (w : Writes 16 (ea
             let u = placed codes-sum rs at (sum-there .0) (sum-of-last at (drop at rs) (last .parsed)) in
             omega (arith, sum-there .1, last .counted, u .1, u .2)
 
-        pub event-laid : {after : List ℕ} → after ≡ putMid start (length b - start) b part′ → Laid (answer.Accepted (k + n)) after
-        event-laid {after} back =
+        pub event-judged : Judged (answer.Accepted (k + n))
+        event-judged =
             let ws = each regionWords (these .value) in
             let ss = sumWords (last .value) in
             let c : k + n ≡ 0 + length (ws ++ ss) = omega (arith, these .counted, last .counted, length-append ws ss) in
-            let stored : after ≡ storeWords 16 before 0 (ws ++ ss) =
-            part-written 16 ss b k s lent (last .stored) back ∙ ap (λ (l : List ℕ). storeWords 16 l k ss) (these .stored)
-            ∙ ap (λ (m : ℕ). storeWords 16 (storeWords 16 before 0 ws) m ss) (these .counted) ∙ sym (store-append (storeWord 16) before 0 ws ss) in
-            rw (parsed, last .parsed) (record { answered = ap answer.Accepted c; stored = stored })
+            rw (parsed, last .parsed) (record { answered = ap answer.Accepted c; stored = none 0 (ws ++ ss) })
 
--- the sum of what was taken is that of the rows' words, and the place of a wrong one is the last row
+-- the words of what was taken are those that the rows say, and so is their sum; the place of a wrong one is the last row
 module _ (rs : List Row) where
-  taken-sum : {e : Event} {j : ℕ} {r : List Row} → parts 0 rs ≡ ok e j r → (summed e ≡ eqb (total (each rowWords rs) % 65536) 0) × (j ≡ length rs) × (1 ≤ length rs)
-  taken-sum {e} {j} {r} h =
+  taken-rows : {e : Event} {j : ℕ} {r : List Row} → parts 0 rs ≡ ok e j r → (rs ≡ rows e) × (j ≡ length rs)
+  taken-rows {e} {j} {r} h =
       let s = codes-parts (codes-finish 21) .sound 0 rs e j r h in
       let l : rs ≡ rows e = s .1 ∙ ap (rows e ++_) (nil r (ends-parts 21 (several region atSum) sumRegion 0 rs e j r h)) ∙ append-nil (rows e) in
-      let n : length rs ≡ length (each regionRows (e .regions)) + 2 = ap length l ∙ length-append (each regionRows (e .regions)) (sumRows (e .sum)) in
-      (ap (λ (x : List ℕ). eqb (total x % 65536) 0) (sym (ap (each rowWords) l ∙ words-of-rows e)), omega (arith, s .2, ap length l), omega arith)
+      (l, omega (arith, s .2, ap length l))
+
+  taken-words : {e : Event} {j : ℕ} {r : List Row} → parts 0 rs ≡ ok e j r → each rowWords rs ≡ words e
+  taken-words {e} h = ap (each rowWords) (taken-rows h .0) ∙ words-of-rows e
+
+  taken-sum : {e : Event} {j : ℕ} {r : List Row} → parts 0 rs ≡ ok e j r → summed e ≡ eqb (total (each rowWords rs) % 65536) 0
+  taken-sum h = ap (λ (x : List ℕ). eqb (total x % 65536) 0) (sym (taken-words h))
 
   abbrev Counted : Answer → Type 0
   Counted r = ScannedBy (writingAll 16) words (lastly summed 22 parts 0 rs) 0 [] r []
 
-  module _ {b after : List ℕ} {result : Answer} (s : ScannedBy (writingAll 16) words (parts 0 rs) 0 b result after) where
+  module _ {result : Answer} (s : ScannedBy (writingAll 16) words (parts 0 rs) 0 [] result []) where
     pub count-refused : {n p : ℕ} → result ≡ answer.Refused n p → Counted result
     count-refused e = rw e (scanned-refuse words 0 [] [] (rw (refused-scan words (parts 0 rs) (rw e at s))))
 
@@ -130,29 +129,32 @@ module _ (rs : List Row) where
 
   module _ {k : ℕ} (t : Taken words (parts 0 rs) k) {sum : ℕ} (m : sum ≡ total (each rowWords rs) % 65536) where
     pub last-row : 1 ≤ length rs
-    last-row = taken-sum (t .parsed) .2
+    last-row =
+        let e = t .value in
+        omega (arith, ap length (taken-rows (t .parsed) .0), length-append (each regionRows (e .regions)) (sumRows (e .sum)))
 
     pub sum-wrong : (sum ≡ 0 → ⊥) → Counted (answer.Refused 22 (length rs - 1))
     sum-wrong z =
-        let u = taken-sum (t .parsed) in
-        let f : summed (t .value) ≡ false = u .0 ∙ ne-eqb (total (each rowWords rs) % 65536) 0 (λ e. z (m ∙ e)) in
-        rw (u .1) at (lastly-fails {scan = writingAll 16} {itemsOf = words} summed 22 parts 0 rs {k = 0} {before = []} {after = []} (t .value) (t .place) (t .input) (t .parsed) f)
+        let f : summed (t .value) ≡ false = taken-sum (t .parsed) ∙ ne-eqb (total (each rowWords rs) % 65536) 0 (λ e. z (m ∙ e)) in
+        rw (taken-rows (t .parsed) .1) at (lastly-fails {scan = writingAll 16} {itemsOf = words} summed 22 parts 0 rs {k = 0} {before = []} {after = []} (t .value) (t .place) (t .input) (t .parsed) f)
 
     pub sum-right : sum ≡ 0 → Counted (answer.Accepted k)
     sum-right z =
         let ws = words (t .value) in
         let c : k ≡ 0 + length ws = omega (arith, t .counted) in
-        lastly-holds summed 22 parts 0 rs (rw (t .parsed) (record { answered = ap answer.Accepted c; stored = sym (past-the-end 16 ws [] 0 (omega arith)) }))
-        (λ e j r p. taken-sum p .0 ∙ eq-eqb (total (each rowWords rs) % 65536) 0 (sym m ∙ z))
+        lastly-holds summed 22 parts 0 rs (rw (t .parsed) (record { answered = ap answer.Accepted c; stored = none 0 ws }))
+        (λ e j r p. taken-sum p ∙ eq-eqb (total (each rowWords rs) % 65536) 0 (sym m ∙ z))
 
   -- what was counted
   pub counted-taken : {result : Answer} {k : ℕ} → Counted result → result ≡ answer.Accepted k → Taken words (lastly summed 22 parts 0 rs) k
   counted-taken s e = accepted-scan words (lastly summed 22 parts 0 rs) (rw e at s)
 
   -- its words
-  pub event-written : {k : ℕ} → Taken words (lastly summed 22 parts 0 rs) k → {b after : List ℕ} {r : Answer} → ScannedBy (writingAll 16) words (parts 0 rs) 0 b r after
-      → ScannedBy (writingAll 16) words (lastly summed 22 parts 0 rs) 0 b r after
-  event-written t s = rw (t .parsed) (rw (lastly-taken summed 22 parts 0 rs (t .parsed) .0) at s)
+  pub event-filled : {k : ℕ} → Taken words (lastly summed 22 parts 0 rs) k → {b after : List ℕ} → after ≡ storeWords 16 b 0 (each rowWords rs)
+      → ScannedBy (writingAll 16) words (lastly summed 22 parts 0 rs) 0 b (answer.Accepted k) after
+  event-filled {k} t {b} s =
+      let c : k ≡ 0 + length (words (t .value)) = omega (arith, t .counted) in
+      rw (t .parsed) (record { answered = ap answer.Accepted c; stored = s ∙ ap (storeWords 16 b 0) (taken-words (lastly-taken summed 22 parts 0 rs (t .parsed) .0)) })
 
   pub event-fits : (e : Event) (j : ℕ) (r : List Row) → lastly summed 22 parts 0 rs ≡ ok e j r → length (words e) ≤ largestEvent → InWidth 16 (words e)
   event-fits e j r p l = words-fit e (record { formed = codes-one .sound 0 rs e j r p .0; size = l })

@@ -5,3 +5,4 @@ pub mod OneRegion
 pub mod Regions
 pub mod CheckSum
 pub mod Event
+pub mod Filled

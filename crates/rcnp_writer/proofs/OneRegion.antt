@@ -1,4 +1,4 @@
--- One region at the front of the words: its header, then its content by its form. Over plain values.
+-- One region, judged: its own row, then its content by its form. Over plain values.
 -- Assumes nothing.
 use Prim.Native.Nat.{ℕ, _+_, _/_, _<_}
 use native.Mathlib.Omega.{arith}
@@ -11,9 +11,8 @@ use Rattle.event.specs.declared.Part.{Part}
 use Rattle.event.specs.declared.Part.the-variants.{Refused}
 use Rattle.event.specs.declared.Row.{Row}
 use Rattle.event.specs.Parser.{Result, ok, refuse, then, give, times, each, alone}
-use Rattle.event.specs.Words.{wordAlone, storeWord}
+use Rattle.event.specs.Words.{wordAlone}
 use Rattle.event.specs.Writing.{ofKind, noRow}
-use Rattle.event.specs.Scanning.{Writes}
 use Rattle.event.proofs.Elements.{each-map, each-alone}
 use Rattle.event.proofs.RowJudged.{rows-from, row-taken, row-refused}
 use Rattle.event.proofs.WritingTurns.{writes-part, writes-as, writes-refused}
@@ -22,46 +21,47 @@ use Rattle.rcnp_layout.specs.Layout.{headerWord, scalerWords, vdcWord, contentW
 use Rattle.rcnp_layout.specs.Writing.{word, scalerAt, vdcValue, content, headerOf, headerRow, headerChecks, header, region}
 use Rattle.rcnp_layout.proofs.Rows.{codes-region}
 use Rattle.rcnp_writer.specs.Faults.{headerFault}
-use Rattle.rcnp_writer.specs.Parts.{vdcWords, ContentAt}
+use Rattle.rcnp_writer.specs.Parts.{vdcWords, ContentAt, Counts}
+use Rattle.rcnp_writer.proofs.Contents.{none}
 use Rattle.rcnp_writer.proofs.RowRules.{header-judged}
 
 -- one word, of the rows that a count of 1 announces
-one-word : (x : Result Row ℕ) {rs : List Row} {k : ℕ} {b after : List ℕ} {r : Part} → Writes 16 (each wordAlone) (then (λ w. give (w ∷ [])) x) rs k b r after → Writes 16 wordAlone x rs k b r after
+one-word : (x : Result Row ℕ) {rs : List Row} {k : ℕ} {r : Part} → Counts (each wordAlone) (then (λ w. give (w ∷ [])) x) rs k r → Counts wordAlone x rs k r
 one-word (ok w j l) s = record { scanned = record { answered = s .scanned .answered; stored = s .scanned .stored }; within = s .within }
 one-word (refuse n p) s = record { scanned = record { answered = s .scanned .answered; stored = tt }; within = s .within }
 
 -- the content from row `first` on, of the form that the id has
 module _ (rs : List Row) (first n : ℕ) where
-  abbrev ContentIn : Form → List ℕ → Part → List ℕ → Type 0
-  ContentIn f = Writes 16 (contentWords f) (content f n first (drop first rs)) rs 1
+  abbrev ContentIn : Form → Part → Type 0
+  ContentIn f = Counts (contentWords f) (content f n first (drop first rs)) rs 1
 
-  pub scalers-content : (id : ℕ) {b after : List ℕ} {r : Part} → id ≡ 6
-      → Writes 16 (each scalerWords) (times scalerAt nextIndex (n / 2) 0 first (drop first rs)) rs 1 b r after → ContentIn (formOf id) b r after
+  pub scalers-content : (id : ℕ) {r : Part} → id ≡ 6
+      → Counts (each scalerWords) (times scalerAt nextIndex (n / 2) 0 first (drop first rs)) rs 1 r → ContentIn (formOf id) r
   scalers-content id e w = rw e w
 
-  pub chamber-content : (id : ℕ) {b after : List ℕ} {r : Part} → id ≡ 7
-      → Writes 16 (each vdcWords) (times vdcValue begins n false first (drop first rs)) rs 1 b r after → ContentIn (formOf id) b r after
+  pub chamber-content : (id : ℕ) {r : Part} → id ≡ 7
+      → Counts (each vdcWords) (times vdcValue begins n false first (drop first rs)) rs 1 r → ContentIn (formOf id) r
   chamber-content id e w = rw e (writes-as 16 (each vdcWords) (map vdcWord) (times vdcValue begins n false first (drop first rs)) (λ xs j l p. each-map vdcWord xs) w)
 
-  abbrev WordsIn : List ℕ → Part → List ℕ → Type 0
-  WordsIn = Writes 16 (each wordAlone) (times (λ u. word) alone n tt first (drop first rs)) rs 1
+  abbrev WordsIn : Part → Type 0
+  WordsIn = Counts (each wordAlone) (times (λ u. word) alone n tt first (drop first rs)) rs 1
 
-  as-words : (f : Form) {b after : List ℕ} {r : Part} → (idOf f ≡ 6 → ⊥) → (idOf f ≡ 7 → ⊥) → T (allowedSize f n) → WordsIn b r after → ContentIn f b r after
+  as-words : (f : Form) {r : Part} → (idOf f ≡ 6 → ⊥) → (idOf f ≡ 7 → ⊥) → T (allowedSize f n) → WordsIn r → ContentIn f r
   as-words inputRegister p q t w = let e : n ≡ 1 = eqb→eq n 1 t in one-word (word first (drop first rs)) (rw e at w)
   as-words scaler p q t w = absurd (p refl)
   as-words vdc p q t w = absurd (q refl)
   as-words (opaque k) p q t w = writes-as 16 (each wordAlone) (λ ws. ws) (times (λ u. word) alone n tt first (drop first rs)) (λ ws j l p. each-alone ws) w
 
-  pub words-content : {id : ℕ} {b after : List ℕ} {r : Part} → ContentAt rs first id n → (id ≡ 6 → ⊥) → (id ≡ 7 → ⊥) → WordsIn b r after → ContentIn (formOf id) b r after
+  pub words-content : {id : ℕ} {r : Part} → ContentAt rs first id n → (id ≡ 6 → ⊥) → (id ≡ 7 → ⊥) → WordsIn r → ContentIn (formOf id) r
   words-content {id} a p q = as-words (formOf id) (λ e. p (a .known ∙ e)) (λ e. q (a .known ∙ e)) (a .allowed)
 
-module _ (rs : List Row) (at : ℕ) (b : List ℕ) {r : Row} (e : r ≡ getD rs at noRow) where
-  abbrev RegionIn : Part → List ℕ → Type 0
-  RegionIn = Writes 16 regionWords (region at (drop at rs)) rs 0 b
+module _ (rs : List Row) (at : ℕ) {r : Row} (e : r ≡ getD rs at noRow) where
+  abbrev RegionIn : Part → Type 0
+  RegionIn = Counts regionWords (region at (drop at rs)) rs 0
 
-  pub header-refused : {m : ℕ} {part : Part} (after : List ℕ) → m ≡ headerFault r → (m ≡ 0 → ⊥) → part ≡ Refused m at → RegionIn part after
+  pub header-refused : {m : ℕ} {part : Part} → m ≡ headerFault r → (m ≡ 0 → ⊥) → part ≡ Refused m at → RegionIn part
   unfolding headerFault
-  header-refused after f z q = writes-refused 16 regionWords (rw (row-refused (ofKind 32) headerOf headerRow headerChecks refl (λ h. (tt, (tt, tt))) rs at e f z)) q
+  header-refused f z q = writes-refused 16 regionWords (rw (row-refused (ofKind 32) headerOf headerRow headerChecks refl (λ h. (tt, (tt, tt))) rs at e f z)) q
 
   module _ (f : 0 ≡ headerFault r) where
     header-taken : (at < length rs) × (header at (drop at rs) ≡ ok (headerOf r) (at + 1) (drop (at + 1) rs))
@@ -88,8 +88,7 @@ module _ (rs : List Row) (at : ℕ) (b : List ℕ) {r : Row} (e : r ≡ getD rs 
     parsed : region at (drop at rs) ≡ then (λ c. give (record { form = formOf (r .unit); content = c })) inner
     parsed = rw (header-taken .1)
 
-    pub region-written : {w : ℕ} {b₁ after : List ℕ} {x : Part} → w ≡ headerWord (r .unit) (r .channel) → b₁ ≡ storeWord 16 b 0 w
-        → Writes 16 (contentWords (formOf (r .unit))) inner rs 1 b₁ x after → RegionIn x after
-    region-written w q s = writes-as 16 headed regionWords (region at (drop at rs)) same-words
+    pub region-judged : {x : Part} → Counts (contentWords (formOf (r .unit))) inner rs 1 x → RegionIn x
+    region-judged s = writes-as 16 headed regionWords (region at (drop at rs)) same-words
         (rw parsed (writes-part 16 (contentWords (formOf (r .unit))) (headerWord (r .unit) (r .channel) ∷ []) inner (λ c. record { form = formOf (r .unit); content = c }) headed
-        (λ c. refl {a = headed (record { form = formOf (r .unit); content = c })}) refl (q ∙ ap (storeWord 16 b 0) w) s))
+        (λ c. refl {a = headed (record { form = formOf (r .unit); content = c })}) refl (none 0 (headerWord (r .unit) (r .channel) ∷ [])) s))

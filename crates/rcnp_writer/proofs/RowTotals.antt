@@ -1,6 +1,6 @@
 -- The sum of an event's words, row by row.
 -- Assumes nothing.
-use Prim.Native.Nat.{ℕ, zero, suc, _+_, _/_, _%_, _≤_, _<_}
+use Prim.Native.Nat.{ℕ, zero, suc, _+_, _/_, _%_, _^_, _≤_, _<_}
 use native.Mathlib.Omega.{arith}
 use mathlib.Core.Path.{_≡_, refl, ap, sym, _∙_}
 use mathlib.Core.List.{List, [], _∷_, _++_}
@@ -13,10 +13,9 @@ use Rattle.event.specs.Words.{wordAlone}
 use Rattle.event.specs.Writing.{noRow}
 use Rattle.event.proofs.Elements.{prints-each, each-append, each-prints, each-mapped, each-map, each-alone}
 use Rattle.rcnp_layout.specs.Event.{VdcWord, head, datum, Form, inputRegister, scaler, vdc, opaque, Content, Event}
-use Rattle.rcnp_layout.specs.Layout.{headerWord, scalerWords, vdcWord, contentWords, regionWords, sumWords, words, total, wordRow, scalerRow, nextIndex, vdcRow, contentRows, regionRows, sumRows, rows}
-use Rattle.rcnp_layout.specs.Writing.{vdcOf}
+use Rattle.rcnp_layout.specs.Layout.{scalerWords, vdcWord, contentWords, regionWords, sumWords, words, total, wordRow, scalerRow, nextIndex, vdcRow, contentRows, regionRows, sumRows, rows}
 use Rattle.rcnp_layout.proofs.Sums.{total-append}
-use Rattle.rcnp_writer.specs.RowWords.{rowWords}
+use Rattle.rcnp_writer.specs.RowWords.{fieldWord, rowWords}
 
 content-words : (f : Form) (c : Content f) → each rowWords (contentRows f c) ≡ contentWords f c
 content-words inputRegister w = refl
@@ -45,26 +44,23 @@ one-more (r ∷ rs) (suc i) h =
     omega (arith, total-append (rowWords r) (each rowWords (take (suc i) rs)), total-append (rowWords r) (each rowWords (take i rs)), one-more rs i (omega arith))
 
 -- one row more, as the loop takes it
-pub sum-next : (rs : List Row) (i : ℕ) {sum t : ℕ} {r : Row} → i < length rs → sum ≡ totalTo rs i % 65536 → r ≡ getD rs i noRow → t ≡ total (rowWords r) % 65536
-    → (sum + t) % 65536 ≡ totalTo rs (i + 1) % 65536
-sum-next rs i {r = r} h s e q =
+pub sum-next : (rs : List Row) (i sum : ℕ) {next t : ℕ} {r : Row} → i < length rs → sum % 65536 ≡ totalTo rs i % 65536 → r ≡ getD rs i noRow → t ≡ total (rowWords r)
+    → next ≡ (sum + t) % 2 ^ 64 → next % 65536 ≡ totalTo rs (i + 1) % 65536
+sum-next rs i sum {t = t} h s e q p =
     let n : i + 1 ≡ suc i = omega arith in
-    let m : totalTo rs (suc i) ≡ totalTo rs i + total (rowWords r) = one-more rs i h ∙ ap (λ (x : Row). totalTo rs i + total (rowWords x)) (sym e) in
-    rw (n, m, s, q) (omega arith)
+    let m : totalTo rs (suc i) ≡ totalTo rs i + t = one-more rs i h ∙ ap (totalTo rs i +_) (sym (q ∙ ap (λ (x : Row). total (rowWords x)) e)) in
+    rw (n, m, p) (omega arith)
 
-pub summed-up : (rs : List Row) (i : ℕ) {sum : ℕ} → sum ≡ totalTo rs i % 65536 → length rs ≤ i → sum ≡ total (each rowWords rs) % 65536
-summed-up rs i s h = s ∙ ap (λ (l : List Row). total (each rowWords l) % 65536) (take-all i rs h)
+pub summed-up : (rs : List Row) (i sum : ℕ) → sum % 65536 ≡ totalTo rs i % 65536 → length rs ≤ i → sum % 65536 ≡ total (each rowWords rs) % 65536
+summed-up rs i sum s h = s ∙ ap (λ (l : List Row). total (each rowWords l) % 65536) (take-all i rs h)
 
 -- the sum of a row's words, by its kind
 module _ (r : Row) where
-  pub of-word : r .kind ≡ 33 → r .datum % 65536 ≡ total (rowWords r) % 65536
-  of-word e = rw e (omega arith)
+  pub sum-of-word : r .kind ≡ 33 → r .datum ≡ total (rowWords r)
+  sum-of-word e = rw e (omega arith)
 
-  pub of-header : r .kind ≡ 32 → {w : ℕ} → w ≡ headerWord (r .unit) (r .channel) → w % 65536 ≡ total (rowWords r) % 65536
-  of-header e q = rw (e, q) (omega arith)
+  pub sum-of-scaler : r .kind ≡ 34 → r .datum % 65536 + r .datum / 65536 ≡ total (rowWords r)
+  sum-of-scaler e = rw e (omega arith)
 
-  pub of-scaler : r .kind ≡ 34 → (r .datum % 65536 + r .datum / 65536) % 65536 ≡ total (rowWords r) % 65536
-  of-scaler e = rw e (omega arith)
-
-  pub of-chamber : (r .kind ≡ 33 → ⊥) → (r .kind ≡ 32 → ⊥) → (r .kind ≡ 34 → ⊥) → {w : ℕ} → w ≡ vdcWord (vdcOf r) → w % 65536 ≡ total (rowWords r) % 65536
-  of-chamber a b c q = rw (ne-eqb 33 (r .kind) (λ e. a (sym e)), ne-eqb 32 (r .kind) (λ e. b (sym e)), ne-eqb 34 (r .kind) (λ e. c (sym e)), q) (omega arith)
+  pub sum-of-fields : (r .kind ≡ 33 → ⊥) → (r .kind ≡ 34 → ⊥) → {w : ℕ} → w ≡ fieldWord r → w ≡ total (rowWords r)
+  sum-of-fields a b q = rw (ne-eqb 33 (r .kind) (λ e. a (sym e)), ne-eqb 34 (r .kind) (λ e. b (sym e)), q) (omega arith)

@@ -1,15 +1,18 @@
 -- The parts of an event as the code writes them (the contracts of private functions).
 -- Assumes nothing.
-use Prim.Native.Nat.{ℕ, _≤_}
+use Prim.Native.Nat.{ℕ, _+_, _-_, _*_, _≤_}
 use mathlib.Core.Path.{_≡_}
 use mathlib.Core.List.{List, [], _∷_}
 use lib.Dec.{T}
-use lib.ListN.{length}
+use lib.ListN.{length, take, drop}
+use Rattle.event.specs.declared.Part.{Part}
 use Rattle.event.specs.declared.Row.{Row}
-use Rattle.event.specs.Parser.{Parser, _>>=_, _>>_, give, finish}
+use Rattle.event.specs.Parser.{Result, Parser, _>>=_, _>>_, give, finish, each}
+use Rattle.event.specs.Scanning.{storeWords, Writes}
 use Rattle.rcnp_layout.specs.Event.{VdcWord, idOf, formOf}
 use Rattle.rcnp_layout.specs.Layout.{vdcWord, allowedSize}
 use Rattle.rcnp_layout.specs.Writing.{sumRegion}
+use Rattle.rcnp_writer.specs.RowWords.{rowWords}
 
 -- one word of a VDC region
 abbrev pub vdcWords : VdcWord → List ℕ
@@ -28,3 +31,19 @@ lastRegion = do
   w ← sumRegion
   finish 21
   give w
+
+-- a part that x parsed from rows, whose words are counted after k others, and not stored
+abbrev pub Counts : {A : Type 0} → (A → List ℕ) → Result Row A → List Row → ℕ → Part → Type 0
+Counts wordsOf x rs k r = Writes 16 wordsOf x rs k [] r []
+
+-- the words of m rows from row i on
+abbrev pub wordsIn : List Row → (i m : ℕ) → List ℕ
+wordsIn rs i m = each rowWords (take m (drop i rs))
+
+-- the rows from i to j, their words stored from word `at` to word `end`, at most two for a row
+pub record Filled (rs : List Row) (i j at end : ℕ) (before after : List ℕ) : Type 0 where
+  pub order : i ≤ j
+  pub inside : j ≤ length rs
+  pub counted : end ≡ at + length (wordsIn rs i (j - i))
+  pub few : end ≤ at + 2 * (j - i)
+  pub stored : after ≡ storeWords 16 before at (wordsIn rs i (j - i))

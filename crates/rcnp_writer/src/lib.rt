@@ -1,13 +1,14 @@
 // Writes one event of dialect R, RCNP regions (document 02, #101), from its rows.
 mod content;
 mod fault;
+mod fill;
 mod region;
 mod sum;
 mod whole;
 mod word;
 
+use crate::fill::write_regions;
 use crate::whole::count_words;
-use crate::whole::write_event;
 use event::Answer;
 use event::refusal;
 ghost use mathlib.Core.Path.{_≡_};
@@ -43,5 +44,6 @@ pub fn write(rows: &[u32], words: &mut [u16]) -> Answer
             place: count,
         };
     }
-    write_event(rows, words)
+    write_regions(rows, words);
+    Answer::Accepted(count)
 }

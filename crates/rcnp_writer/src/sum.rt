@@ -1,9 +1,9 @@
-// The sum of an event's words, from its rows: a pass that only counts words stores none.
-use crate::word::header_word;
-use crate::word::vdc_word;
+// The sum of an event's words, from its rows: no word is stored before it is known.
+use crate::word::field_word;
 use event::Row;
 use event::kind;
 use event::rows::row_at;
+use std::num::wrapping_add_usize;
 ghost use Prim.Native.Nat.{_%_};
 ghost use mathlib.Core.Path.{_≡_};
 ghost use denote.Ref.{now};
@@ -12,23 +12,20 @@ ghost use Rattle.event.specs.Writing.{rowsIn};
 ghost use Rattle.rcnp_layout.specs.Layout.{total};
 ghost use Rattle.rcnp_writer.specs.RowWords.{rowWords};
 
-// The sum of the words that a row says, modulo 65,536. Most rows are words as they are.
+// The sum of the words that a row says. Most rows are words as they are.
 fn row_total(row: Row) -> usize
-    ensures { λ r. ⌜ r ≡ total (rowWords row) % 65536 ⌝ }
+    ensures { λ r. ⌜ r ≡ total (rowWords row) ⌝ }
 {
     if row.kind == kind::REGION_WORD {
-        return row.datum as usize % 65536;
-    }
-    if row.kind == kind::REGION {
-        return header_word(row.unit, row.channel) % 65536;
+        return row.datum as usize;
     }
     if row.kind == kind::REGION_SCALER {
-        return (row.datum % 65536 + row.datum / 65536) as usize % 65536;
+        return (row.datum % 65536 + row.datum / 65536) as usize;
     }
-    vdc_word(row) % 65536
+    field_word(row)
 }
 
-// The sum of the words of all rows, modulo 65,536.
+// The sum of the words of all rows, modulo 65,536. It is taken modulo 2^64 on the way.
 pub(crate) fn row_sum(rows: &[u32]) -> usize
     ensures { λ r. ⌜ r ≡ total (each rowWords (rowsIn (now (rows .entry)))) % 65536 ⌝ }
 {
@@ -36,8 +33,8 @@ pub(crate) fn row_sum(rows: &[u32]) -> usize
     let mut i: usize = 0;
     while i < rows.len() / 4 {
         let row = row_at(rows, i);
-        sum = (sum + row_total(row)) % 65536;
+        sum = wrapping_add_usize(sum, row_total(row));
         i += 1;
     }
-    sum
+    sum % 65536
 }

@@ -1,17 +1,14 @@
-// One pass over the rows, which stores a word only where there is room: with no room it counts.
+// The rows of an event, judged: the first refusal, or the number of its words.
 use crate::fault::datum_fault;
 use crate::fault::sum_fault;
-use crate::region::write_region;
+use crate::region::judge_region;
 use crate::sum::row_sum;
-use crate::word::header_word;
 use event::Answer;
 use event::Part;
 use event::kind;
 use event::refusal;
 use event::refuse_part;
 use event::rows::row_at;
-use event::words::part_start;
-use event::words::store_word16;
 ghost use Prim.Native.Nat.{_≤_};
 ghost use mathlib.Core.Path.{_≡_};
 ghost use mathlib.Core.Bool.{not};
@@ -20,10 +17,10 @@ ghost use lib.ListN.{length, drop};
 ghost use denote.Ref.{now};
 ghost use Rattle.event.specs.Parser.{several, each, finish, lastly};
 ghost use Rattle.event.specs.Writing.{rowsIn};
-ghost use Rattle.event.specs.Scanning.{writingAll, ScannedBy, Writes};
+ghost use Rattle.event.specs.Scanning.{writingAll, ScannedBy};
 ghost use Rattle.rcnp_layout.specs.Layout.{regionWords, sumWords, summed, words as wordsOf};
 ghost use Rattle.rcnp_layout.specs.Writing.{region, atSum, partsWith};
-ghost use Rattle.rcnp_writer.specs.Parts.{lastRegion};
+ghost use Rattle.rcnp_writer.specs.Parts.{Counts, lastRegion};
 
 // Row `at` is there, and not the check sum region's own.
 fn before_sum(rows: &[u32], at: usize) -> bool
@@ -36,17 +33,16 @@ fn before_sum(rows: &[u32], at: usize) -> bool
     false
 }
 
-// The regions before the check sum, each in the part of the words that starts at its place.
-fn write_regions(rows: &[u32], words: &mut [u16]) -> Part
-    ensures { λ r. ⌜ Writes 16 (each regionWords) (several region atSum 0 (rowsIn (now (rows .entry)))) (rowsIn (now (rows .entry))) 0 (now (words .entry)) r (now (words .exit)) ⌝ }
+// The regions before the check sum.
+fn judge_regions(rows: &[u32]) -> Part
+    ensures { λ r. ⌜ Counts (each regionWords) (several region atSum 0 (rowsIn (now (rows .entry)))) (rowsIn (now (rows .entry))) 0 r ⌝ }
 {
     let mut i: usize = 0;
     let mut at: usize = 0;
     while before_sum(rows, i) {
-        let start = part_start(at, words.len());
-        let written = write_region(rows, i, &mut words[start..]);
-        let Part::Done { next, count } = written else {
-            return written;
+        let judged = judge_region(rows, i);
+        let Part::Done { next, count } = judged else {
+            return judged;
         };
         at += count;
         i = next;
@@ -54,41 +50,37 @@ fn write_regions(rows: &[u32], words: &mut [u16]) -> Part
     Part::Done { next: i, count: at }
 }
 
-// The check sum region, whose own row is row `at`, at the front of the words. No row follows it.
-fn write_check_sum(rows: &[u32], at: usize, words: &mut [u16]) -> Part
+// The check sum region, whose own row is row `at`. No row follows it.
+fn judge_check_sum(rows: &[u32], at: usize) -> Part
     requires { ⌜ at ≤ length (rowsIn (now rows)) ⌝ }
-    ensures { λ r. ⌜ Writes 16 sumWords (lastRegion at (drop at (rowsIn (now (rows .entry))))) (rowsIn (now (rows .entry))) 0 (now (words .entry)) r (now (words .exit)) ⌝ }
+    ensures { λ r. ⌜ Counts sumWords (lastRegion at (drop at (rowsIn (now (rows .entry))))) (rowsIn (now (rows .entry))) 0 r ⌝ }
 {
     let number = sum_fault(row_at(rows, at));
     if number != 0 {
         return refuse_part(number, at);
     }
-    let row = row_at(rows, at + 1);
-    let number = datum_fault(row, kind::REGION_WORD, 0, 65536);
+    let number = datum_fault(row_at(rows, at + 1), kind::REGION_WORD, 0, 65536);
     if number != 0 {
         return refuse_part(number, at + 1);
     }
     if at + 2 < rows.len() / 4 {
         return refuse_part(refusal::KIND, at + 2);
     }
-    store_word16(words, 0, header_word(rcnp_format::CHECK_SUM, 1));
-    store_word16(words, 1, row.datum as usize);
     Part::Done {
         next: at + 2,
         count: 2,
     }
 }
 
-// Writes the event's words, up to the first row that breaks a rule. (Whether their sum is right, `count_words` says.)
-pub(crate) fn write_event(rows: &[u32], words: &mut [u16]) -> Answer
-    ensures { λ r. ⌜ ScannedBy (writingAll 16) wordsOf (partsWith (finish 21) 0 (rowsIn (now (rows .entry)))) 0 (now (words .entry)) r (now (words .exit)) ⌝ }
+// The rows one after another, up to the first that breaks a rule of its own.
+fn judge_rows(rows: &[u32]) -> Answer
+    ensures { λ r. ⌜ ScannedBy (writingAll 16) wordsOf (partsWith (finish 21) 0 (rowsIn (now (rows .entry)))) 0 [] r [] ⌝ }
 {
-    let regions = write_regions(rows, words);
+    let regions = judge_regions(rows);
     match regions {
         Part::Refused { number, place } => Answer::Refused { number, place },
         Part::Done { next, count } => {
-            let start = part_start(count, words.len());
-            let last = write_check_sum(rows, next, &mut words[start..]);
+            let last = judge_check_sum(rows, next);
             match last {
                 Part::Refused { number, place } => Answer::Refused { number, place },
                 Part::Done {
@@ -104,8 +96,7 @@ pub(crate) fn write_event(rows: &[u32], words: &mut [u16]) -> Answer
 pub(crate) fn count_words(rows: &[u32]) -> Answer
     ensures { λ r. ⌜ ScannedBy (writingAll 16) wordsOf (lastly summed 22 (partsWith (finish 21)) 0 (rowsIn (now (rows .entry)))) 0 [] r [] ⌝ }
 {
-    let mut none: [u16; 0] = [];
-    let counted = write_event(rows, &mut none);
+    let counted = judge_rows(rows);
     let Answer::Accepted(count) = counted else {
         return counted;
     };

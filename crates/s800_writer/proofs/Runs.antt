@@ -10,8 +10,7 @@ use Rattle.event.specs.declared.Part.the-variants.{Done, Refused}
 use Rattle.event.specs.declared.Row.{Row}
 use Rattle.event.specs.Parser.{ended, several, each, alone}
 use Rattle.event.specs.Scanning.{Writes}
-use Rattle.event.proofs.Codes.{nil}
-use Rattle.event.proofs.PartTurns.{parts-done, rows-left, part-refused, part-within, part-taken}
+use Rattle.event.proofs.PartTurns.{parts-done, part-refused, part-within, part-taken}
 use Rattle.event.proofs.Turns.{upToStop}
 use Rattle.event.proofs.WritingTurns.{WritesOn}
 use Rattle.s800_layout.specs.Layout.{packetWords}
@@ -32,11 +31,11 @@ module _ {rs : List Row} {i₀ k₀ i k : ℕ} {b₀ b : List ℕ} (h : Packets 
   module _ (below : i < length rs) {start : ℕ} (s : start ≡ min k (length b)) {part part′ : List ℕ} (lent : part ≡ take (length b - start) (drop start b)) {p : Part}
       (w : Writes 16 packetWords (packet i (drop i rs)) rs 0 part p part′) where
     pub packets-stop : {n m : ℕ} (after : List ℕ) → p ≡ Refused n m → Written (Refused n m) after
-    packets-stop = part-refused 16 ended refl (λ u. codes-packet) (λ q l. tt) (λ l t. rw (nil l t) tt) (λ q l. refl) few-words h (rows-left rs i below) s lent w
+    packets-stop = part-refused 16 (λ u. codes-packet) (λ q l. tt) tt (λ q l. refl) few-words h below s lent w
 
     module _ {next count : ℕ} (e : p ≡ Done next count) where
       pub packets-within : (next ≤ length rs) × (i < next) × (k + count ≤ 4 * next)
-      packets-within = part-within 16 ended refl (λ u. codes-packet) (λ q l. tt) (λ l t. rw (nil l t) tt) (λ q l. refl) few-words h (rows-left rs i below) s lent w e
+      packets-within = part-within 16 (λ u. codes-packet) (λ q l. tt) tt (λ q l. refl) few-words h below s lent w e
 
       pub packets-step : {b′ : List ℕ} → b′ ≡ putMid start (length b - start) b part′ → Packets rs i₀ k₀ b₀ next (k + count) b′
-      packets-step = part-taken 16 ended refl (λ u. codes-packet) (λ q l. tt) (λ l t. rw (nil l t) tt) (λ q l. refl) few-words h (rows-left rs i below) s lent w e (λ q l g z. tt)
+      packets-step = part-taken 16 (λ u. codes-packet) (λ q l. tt) tt (λ q l. refl) few-words h below s lent w e (λ q l g z. tt)

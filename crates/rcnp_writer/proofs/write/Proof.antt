@@ -9,7 +9,7 @@ use Rattle.event.proofs.Stores.{write-uneven, write-large, write-crowded, write
 use Rattle.rcnp_layout.specs.Event.{Event}
 use Rattle.rcnp_layout.specs.Layout.{words, summed, largestEvent}
 use Rattle.rcnp_layout.specs.Writing.{partsWith}
-use Rattle.rcnp_writer.proofs.Event.{counted-taken, counted-refused, event-written, event-fits}
+use Rattle.rcnp_writer.proofs.Event.{counted-taken, counted-refused, event-filled, event-fits}
 use borrow.Author.Needs.{needs}
 use Rattle.rcnp_writer.proofs.write.Statement.{statement}
 use Rattle.rcnp_writer.proofs.write.Tie as tie
@@ -68,7 +68,7 @@ returns-4 c =
 
 -- They were written.
 module _ (c : tie.After-slice-known2) where
-  abbrev written : tie.After-write-event
+  abbrev written : tie.After-write-regions
   written = c .before .before
 
   abbrev fits : tie.Else3
@@ -77,16 +77,13 @@ module _ (c : tie.After-slice-known2) where
   abbrev few : tie.Else2
   few = fits .before
 
-kept : tie.Need-same-length
-kept c = search needs
-
 returns-5 : tie.Need-returns-5
 returns-5 c =
     let k = few c .before in
     let w = counted k in
     let rs = rowsIn (elements w) in
     let r = write-fits 16 largestEvent words event (elements w) (lent w) (w .before .if1 .left) (taken k) (few c .if2 .left) (event-fits rs) (fits c .if3 .left)
-    (event-written rs (taken k) (written c .write-event .ensures)) in
+    (event-filled rs (taken k) (written c .write-regions .ensures)) in
     (r .answered, r .written)
 
 pub write-spec : {M : Type 1} → statement M
@@ -101,5 +98,5 @@ write-spec =
     returns-3
     returns-4
     (λ c κs. search needs)
-    kept
+    (λ c. search needs)
     returns-5)

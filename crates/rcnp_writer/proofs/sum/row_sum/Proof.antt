@@ -12,15 +12,18 @@ use Rattle.rcnp_writer.proofs.sum.row_sum.Statement.{statement}
 use Rattle.rcnp_writer.proofs.sum.row_sum.Tie as tie
 
 abbrev Inv-loop : tie.InvT-loop
-Inv-loop rows sum₀ i₀ sum i = (i ≤ length (rowsIn rows)) × (sum ≡ totalTo (rowsIn rows) i % 65536)
+Inv-loop rows sum₀ i₀ sum i = (i ≤ length (rowsIn rows)) × (sum % 65536 ≡ totalTo (rowsIn rows) i % 65536)
 
 abbrev μ-loop : tie.MeasureT-loop
 μ-loop rows sum₀ i₀ sum i = length (rowsIn rows) - i
 
 -- A turn: the row was taken.
-module _ (c : tie.After-row-total Inv-loop μ-loop) where
+module _ (c : tie.After-wrapping-add-usize Inv-loop μ-loop) where
+  abbrev row-summed : tie.After-row-total Inv-loop μ-loop
+  row-summed = c .before
+
   abbrev turn : tie.In-loop Inv-loop μ-loop
-  turn = c .before .before
+  turn = row-summed .before .before
 
   abbrev elements : List ℕ
   elements = turn .before .before .before .args .rows .now
@@ -28,22 +31,17 @@ module _ (c : tie.After-row-total Inv-loop μ-loop) where
   below : turn .before .loop .i < length (rowsIn elements)
   below = omega (arith, turn .loop-test .taken, rows-count elements)
 
-add-sum : tie.Need-add-sum Inv-loop μ-loop
-add-sum c = omega (arith, turn c .before .loop .inv .1, c .row-total .ensures)
-
-add-i : tie.Need-add-i Inv-loop μ-loop
-add-i c = omega (arith, turn c .loop-test .taken)
-
-loop-less : tie.Need-loop-less Inv-loop μ-loop
-loop-less c = omega (arith, below c)
-
 loop-again : tie.Need-loop-again Inv-loop μ-loop
-loop-again c = (omega (arith, below c), sum-next (rowsIn (elements c)) (turn c .before .loop .i) (below c) (turn c .before .loop .inv .1) (c .before .row-at .ensures) (c .row-total .ensures))
+loop-again c =
+    let l = turn c .before .loop in
+    let s = row-summed c in
+    (omega (arith, below c), sum-next (rowsIn (elements c)) (l .i) (l .sum) (below c) (l .inv .1) (s .before .row-at .ensures) (s .row-total .ensures) (c .wrapping-add-usize .ensures))
 
 returns : tie.Need-returns Inv-loop μ-loop
 returns c =
+    let l = c .before .loop in
     let xs = c .before .before .before .args .rows .now in
-    summed-up (rowsIn xs) (c .before .loop .i) (c .before .loop .inv .1) (omega (arith, c .loop-test .left, rows-count xs))
+    summed-up (rowsIn xs) (l .i) (l .sum) (l .inv .1) (omega (arith, c .loop-test .left, rows-count xs))
 
 pub row-sum-spec : {M : Type 1} → statement M
 row-sum-spec =
@@ -54,8 +52,8 @@ row-sum-spec =
     (λ c. (omega arith, refl))
     (λ c κs. search needs)
     (λ c κs. search needs)
-    add-sum
-    add-i
-    loop-less
+    (λ c κs. search needs)
+    (λ c. omega (arith, turn c .loop-test .taken))
+    (λ c. omega (arith, below c))
     loop-again
     returns)

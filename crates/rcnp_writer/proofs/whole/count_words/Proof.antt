@@ -15,22 +15,22 @@ use Rattle.rcnp_writer.proofs.whole.count_words.Tie as tie
 
 returns : tie.Need-returns
 returns c =
-    let w = c .before .before .before in
-    count-refused (rowsIn (w .before .before .before .args .rows .now)) (w .write-event .ensures) (c .enum-told .given .1)
+    let w = c .before .before in
+    count-refused (rowsIn (w .before .before .args .rows .now)) (w .judge-rows .ensures) (c .enum-told .given .1)
 
 -- The parts were counted, and the rows summed.
 module _ (s : tie.After-row-sum) where
   abbrev counted : tie.After-counted
   counted = s .before .before
 
-  abbrev pass : tie.After-write-event
-  pass = counted .before .before .before
+  abbrev pass : tie.After-judge-rows
+  pass = counted .before .before
 
   abbrev elements : List ℕ
-  elements = pass .before .before .before .args .rows .now
+  elements = pass .before .before .args .rows .now
 
   taken : Taken words (partsWith (finish 21) 0 (rowsIn elements)) (counted .counted .given .0 .0)
-  taken = count-taken (rowsIn elements) (pass .write-event .ensures) (counted .counted .given .1)
+  taken = count-taken (rowsIn elements) (pass .judge-rows .ensures) (counted .counted .given .1)
 
 returns-2 : tie.Need-returns-2
 returns-2 c =
@@ -41,7 +41,6 @@ pub count-words-spec : {M : Type 1} → statement M
 count-words-spec =
     tie.close
     (tie.spec
-    (λ c. search needs)
     (λ c κs. search needs)
     (λ c. search needs)
     (λ c. search needs)
