@@ -2,7 +2,7 @@
 -- Assumes nothing.
 use Prim.Native.Nat.{ℕ, _+_, _*_, _-_, _%_, _≤_}
 use native.Mathlib.Omega.{arith}
-use mathlib.Core.Path.{_≡_, refl, sym, ap, _∙_}
+use mathlib.Core.Path.{_≡_, refl, sym, ap, _∙_, subst}
 use mathlib.Core.Bool.{false}
 use mathlib.Core.List.{List, [], _∷_, _++_, append-nil}
 use lib.Dec.{eqb}
@@ -33,10 +33,11 @@ use Rattle.rcnp_layout.proofs.Event.{ends-parts}
 use Rattle.rcnp_layout.proofs.Rows.{codes-region, codes-sum, codes-parts, codes-one}
 use Rattle.rcnp_layout.proofs.Sizes.{not-sum}
 use Rattle.rcnp_layout.proofs.Width.{words-fit}
-use Rattle.rcnp_writer.specs.Parts.{Counts, lastRegion}
+use Rattle.rcnp_writer.specs.Parts.{Counts, lastRegion, Runs}
 use Rattle.rcnp_writer.specs.RowWords.{rowWords}
 use Rattle.rcnp_writer.proofs.Contents.{none}
 use Rattle.rcnp_writer.proofs.RowTotals.{words-of-rows}
+use Rattle.rcnp_writer.proofs.RunsOfRows.{rows-runs}
 
 abbrev parts : Parser Row Event
 parts = partsWith (finish 21)
@@ -148,6 +149,10 @@ module _ (rs : List Row) where
   -- what was counted
   pub counted-taken : {result : Answer} {k : ℕ} → Counted result → result ≡ answer.Accepted k → Taken words (lastly summed 22 parts 0 rs) k
   counted-taken s e = accepted-scan words (lastly summed 22 parts 0 rs) (rw e at s)
+
+  -- its rows are those of an event
+  pub taken-runs : {k : ℕ} → Taken words (lastly summed 22 parts 0 rs) k → Runs rs
+  taken-runs t = subst Runs (sym (taken-rows (lastly-taken summed 22 parts 0 rs (t .parsed) .0) .0)) (rows-runs (t .value))
 
   -- its words
   pub event-filled : {k : ℕ} → Taken words (lastly summed 22 parts 0 rs) k → {b after : List ℕ} → after ≡ storeWords 16 b 0 (each rowWords rs)

@@ -1,10 +1,11 @@
 -- The words of rows, stored row by row, region by region. Over plain values.
 -- Assumes nothing.
-use Prim.Native.Nat.{ℕ, _+_, _*_, _-_, _/_, _%_, _≤_, _<_, min}
+use Prim.Native.Nat.{ℕ, zero, suc, _+_, _*_, _-_, _/_, _%_, _≤_, _<_, min}
 use native.Mathlib.Omega.{arith}
 use mathlib.Core.Path.{_≡_, refl, sym, ap, _∙_}
 use mathlib.Core.Bool.{Bool, true, false, cond}
 use mathlib.Core.List.{List, [], _∷_, _++_, append-nil}
+use lib.Dec.{T, ltb, ltb→lt}
 use lib.ListN.{length, getD, take, drop, length-append}
 use lib.Seq.{take-all, take-add, drop-drop}
 use borrow.Author.Tests.{ne-eqb}
@@ -14,12 +15,14 @@ use Rattle.event.specs.Parser.{each}
 use Rattle.event.specs.Words.{storeWord}
 use Rattle.event.specs.Writing.{ofKind, noRow}
 use Rattle.event.specs.Scanning.{storeWords}
+use Rattle.event.proofs.Codes.{T-true}
 use Rattle.event.proofs.Elements.{each-append}
 use Rattle.event.proofs.Leads.{store-append}
 use Rattle.event.proofs.RowJudged.{rows-from}
-use Rattle.event.proofs.WordStores.{length-words, part-written}
-use Rattle.rcnp_layout.specs.Layout.{scalerWords}
-use Rattle.rcnp_writer.specs.Parts.{wordsIn, Filled}
+use Rattle.event.proofs.WordStores.{length-words, past-the-end, part-written}
+use Rattle.rcnp_layout.specs.Layout.{scalerWords, vdcWord}
+use Rattle.rcnp_layout.specs.Writing.{vdcOf}
+use Rattle.rcnp_writer.specs.Parts.{ofChamber, RunAt, wordsIn, Filled}
 use Rattle.rcnp_writer.specs.RowWords.{fieldWord, rowWords}
 
 -- one row's words, by its kind
@@ -87,13 +90,45 @@ filled-then {rs} {i} {j} {k} {at} {b = b} f g =
       stored = rw (rows, words, store-append (storeWord 16) b at (wordsIn rs i m) (wordsIn rs j n), ← f .counted, ← f .stored) (g .stored);
     }
 
--- one word more, as it is
-pub filled-word : (k : ℕ) {rs : List Row} {i at : ℕ} {b₀ b b′ : List ℕ} {r : Row} → Filled rs i (i + k) at (at + k) b₀ b → i + k < length rs → r ≡ getD rs (i + k) noRow → r .kind ≡ 33
-    → b′ ≡ storeWord 16 b (at + k) (r .datum) → Filled rs i (i + (k + 1)) at (at + (k + 1)) b₀ b′
-filled-word k {i = i} {at} {b = b} {r = r} f l e word s =
+-- rows of one word each
+pub word-alone : (r : Row) → T (ofKind 33 r) → rowWords r ≡ r .datum ∷ []
+word-alone r t = rw (T-true (ofKind 33 r) t)
+
+pub chamber-alone : (r : Row) → T (ofChamber r) → rowWords r ≡ vdcWord (vdcOf r) ∷ []
+chamber-alone r t =
+    let h = ltb→lt 34 (r .kind) t in
+    rw (ne-eqb 33 (r .kind) (λ e. omega arith), ne-eqb 34 (r .kind) (λ e. omega arith), T-true (ltb 34 (r .kind)) t)
+
+-- one of them more
+pub filled-one : (k : ℕ) {rs : List Row} {i at w : ℕ} {b₀ b b′ : List ℕ} {r : Row} → Filled rs i (i + k) at (at + k) b₀ b → i + k < length rs → r ≡ getD rs (i + k) noRow
+    → rowWords r ≡ w ∷ [] → b′ ≡ storeWord 16 b (at + k) w → Filled rs i (i + (k + 1)) at (at + (k + 1)) b₀ b′
+filled-one k {i = i} {at} f l e word s =
     let row : i + (k + 1) ≡ i + k + 1 = omega arith in
     let end : at + (k + 1) ≡ at + k + 1 = omega arith in
-    rw (row, end) (filled-then f (filled-row l e (word-stored r b (at + k) word s)))
+    rw (row, end) (filled-then f (filled-row l e (rw word (s, refl))))
+
+-- m of them past the end of the words
+module _ {rs : List Row} {i at : ℕ} {b : List ℕ} (wordOf : Row → ℕ) where
+  past : (m : ℕ) → i + m ≤ length rs → ((k : ℕ) → k < m → rowWords (getD rs (i + k) noRow) ≡ wordOf (getD rs (i + k) noRow) ∷ []) → (1 ≤ m → length b ≤ at)
+      → Filled rs i (i + m) at (at + m) b b
+  past zero l one h = first-none (omega arith)
+  past (suc m) l one h =
+      let next : suc m ≡ m + 1 = omega arith in
+      let r = getD rs (i + m) noRow in
+      rw next (filled-one m (past m (omega arith) (λ k q. one k (omega arith)) (λ q. h (omega arith))) (omega arith) refl (one m (omega arith))
+      (sym (past-the-end 16 (wordOf r ∷ []) b (at + m) (let full = h (omega arith) in omega arith))))
+
+-- those that fit are stored, and the others need no room
+pub filled-run : (such : Row → Bool) (wordOf : Row → ℕ) → ((r : Row) → T (such r) → rowWords r ≡ wordOf r ∷ []) → {rs : List Row} {first n at most k : ℕ} {b₀ b : List ℕ}
+    → RunAt such rs first n → most ≡ min n (length b₀ - at) → k ≤ most → most ≤ k → Filled rs first (first + k) at (at + k) b₀ b → Filled rs first (first + n) at (at + n) b₀ b
+filled-run such wordOf one {rs} {first} {n} {at} {most} {k} {b₀} {b} run m h l f =
+    let rest = n - k in
+    let row : first + k + rest ≡ first + n = omega arith in
+    let end : at + k + rest ≡ at + n = omega arith in
+    let size : length b ≡ length b₀ = same-length f in
+    rw (← row, ← end) (filled-then f (past wordOf rest (omega (arith, run .inside))
+    (λ j q. let there : first + k + j ≡ first + (k + j) = omega arith in rw there (one (getD rs (first + (k + j)) noRow) (run .each (k + j) (omega arith))))
+    (λ q. omega arith)))
 
 -- rows at the front of the part of the words that starts at their place
 pub filled-part : {rs : List Row} {i j at count start : ℕ} {b part part′ b′ : List ℕ} → start ≡ min at (length b) → part ≡ take (length b - start) (drop start b) → Filled rs i j 0 count part part′

@@ -6,3 +6,5 @@ pub mod Regions
 pub mod CheckSum
 pub mod Event
 pub mod Filled
+pub mod VdcWords
+pub mod RunsOfRows

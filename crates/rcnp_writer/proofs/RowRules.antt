@@ -1,11 +1,12 @@
 -- The rules of each kind of row, as the code tests them.
 -- Assumes nothing.
-use Prim.Native.Nat.{ℕ, _^_, _<_}
+use Prim.Native.Nat.{ℕ, zero, suc, _^_, _≤_, _<_}
+use native.Mathlib.Omega.{arith}
 use mathlib.Core.Path.{_≡_, refl, sym, _∙_}
 use mathlib.Core.Bool.{Bool, true, false, cond, _&&_}
 use mathlib.Core.List.{[]}
 use lib.Dec.{T, eqb, ltb, eqb→eq, ltb→lt, lt→ltb}
-use borrow.Author.Tests.{eq-eqb, ne-eqb}
+use borrow.Author.Tests.{eq-eqb, ne-eqb, eqb-true, eqb-false, le-ltb}
 use Rattle.event.specs.declared.Row.{Row}
 use Rattle.event.specs.Rows.{row}
 use Rattle.event.specs.Writing.{sameRow}
@@ -59,9 +60,21 @@ pub datum-rules : (k channel bound : ℕ) (r : Row)
 unfolding datumFault
 datum-rules k channel bound r = datum-tested k 0 channel bound r
 
+and-false : (b : Bool) → b && false ≡ false
+and-false true = refl
+and-false false = refl
+
+limit : (b : Bool) → cond b 36 35 ≤ 36
+limit true = omega arith
+limit false = omega arith
+
+below-one : (n : ℕ) → ltb n 1 ≡ eqb n 0
+below-one zero = refl
+below-one (suc n) = rw (le-ltb (suc n) 1 (omega arith), ne-eqb (suc n) 0 (λ e. omega arith))
+
 -- a row of a VDC region
 module _ (begun : Bool) (r : Row) where
-  pub vdc-head : r .kind ≡ 35 → {n : ℕ} {b : Bool} → ltb (r .unit) 256 && (ltb (r .channel) 8 && ltb (r .datum) 8) ≡ b → n ≡ cond b 0 22 → n ≡ vdcFault begun r
+  vdc-head : r .kind ≡ 35 → {n : ℕ} {b : Bool} → ltb (r .unit) 256 && (ltb (r .channel) 8 && ltb (r .datum) 8) ≡ b → n ≡ cond b 0 22 → n ≡ vdcFault begun r
   unfolding vdcFault
   vdc-head e t q = rw (eq-eqb 35 (r .kind) (sym e), fields-same r (row 35 (r .unit) (r .channel) (r .datum)) (e, refl, refl, refl), t, q)
 
@@ -74,13 +87,51 @@ module _ (begun : Bool) (r : Row) where
         go true p q = rw (fields-same r (row 36 0 (r .channel) (r .datum)) (e, eqb→eq (r .unit) 0 (rw p tt), refl, refl)) q
         go false p q = rw (eq-eqb (r .kind) 36 e, p) q
 
-    pub vdc-datum : begun && eqb 36 (r .kind) ≡ true → {n : ℕ} {b : Bool} → eqb (r .unit) 0 && (ltb (r .channel) 32 && ltb (r .datum) 1024) ≡ b → n ≡ cond b 0 22 → n ≡ vdcFault begun r
+    vdc-datum : begun && eqb 36 (r .kind) ≡ true → {n : ℕ} {b : Bool} → eqb (r .unit) 0 && (ltb (r .channel) 32 && ltb (r .datum) 1024) ≡ b → n ≡ cond b 0 22 → n ≡ vdcFault begun r
     unfolding vdcFault
     vdc-datum g t q =
         let x = both begun (eqb 36 (r .kind)) (rw g tt) in
         let e : r .kind ≡ 36 = sym (eqb→eq 36 (r .kind) (x .1)) in
         rw (ne-eqb 35 (r .kind) (λ k. other (sym k)), T-true begun (x .0), eq-eqb 36 (r .kind) (sym e)) (of-unit e (ltb (r .channel) 32 && ltb (r .datum) 1024) (rw (← t) at q))
 
-    pub vdc-other : begun && eqb 36 (r .kind) ≡ false → 21 ≡ vdcFault begun r
+    vdc-other : begun && eqb 36 (r .kind) ≡ false → 21 ≡ vdcFault begun r
     unfolding vdcFault
     vdc-other g = rw (ne-eqb 35 (r .kind) (λ k. other (sym k)), g)
+
+  -- the kinds below, and those above the last that may stand there
+  pub vdc-below : r .kind < 35 → 21 ≡ vdcFault begun r
+  vdc-below h = vdc-other (λ e. omega arith) (rw (ne-eqb 36 (r .kind) (λ e. omega arith)) (and-false begun))
+
+  pub vdc-above : {most : ℕ} → most ≡ cond begun 36 35 → most < r .kind → 21 ≡ vdcFault begun r
+  vdc-above {most} m h = go begun refl
+    where
+      go : (b : Bool) → begun ≡ b → 21 ≡ vdcFault begun r
+      go true e = let top : most ≡ 36 = m ∙ rw e in vdc-other (λ k. omega arith) (rw (ne-eqb 36 (r .kind) (λ k. omega arith)) (and-false begun))
+      go false e = let top : most ≡ 35 = m ∙ rw e in vdc-other (λ k. omega arith) (rw e)
+
+  -- those between: the limits of its fields by the kind
+  pub vdc-within : {most unit channel datum n : ℕ} {b : Bool} → 35 ≤ r .kind → most ≡ cond begun 36 35 → r .kind ≤ most
+      → unit ≡ cond (eqb (r .kind) 35) 256 1 → channel ≡ cond (eqb (r .kind) 35) 8 32 → datum ≡ cond (eqb (r .kind) 35) 8 1024
+      → ltb (r .unit) unit && (ltb (r .channel) channel && ltb (r .datum) datum) ≡ b → n ≡ cond b 0 22 → n ≡ vdcFault begun r
+  vdc-within {most} {unit} {channel} {datum} {n} {b} low m high u c d t q = go (eqb (r .kind) 35) refl
+    where
+      begun-there : (g : Bool) → begun ≡ g → (r .kind ≡ 35 → ⊥) → begun ≡ true
+      begun-there true e z = e
+      begun-there false e z = let top : most ≡ 35 = m ∙ rw e in absurd (z (omega arith))
+
+      at-most : most ≤ 36
+      at-most = rw m (limit begun)
+
+      go : (h : Bool) → eqb (r .kind) 35 ≡ h → n ≡ vdcFault begun r
+      go true e =
+          let u₁ : unit ≡ 256 = u ∙ rw e in
+          let c₁ : channel ≡ 8 = c ∙ rw e in
+          let d₁ : datum ≡ 8 = d ∙ rw e in
+          vdc-head (eqb-true (r .kind) 35 e) (rw (u₁, c₁, d₁) at t) q
+      go false e =
+          let u₁ : unit ≡ 1 = u ∙ rw e in
+          let c₁ : channel ≡ 32 = c ∙ rw e in
+          let d₁ : datum ≡ 1024 = d ∙ rw e in
+          let other = eqb-false (r .kind) 35 e in
+          let datum-there : r .kind ≡ 36 = omega (arith, at-most) in
+          vdc-datum other (rw (begun-there begun refl other, eq-eqb 36 (r .kind) (sym datum-there))) (rw (u₁, c₁, d₁, below-one (r .unit)) at t) q

@@ -1,15 +1,17 @@
 -- The parts of an event as the code writes them (the contracts of private functions).
 -- Assumes nothing.
-use Prim.Native.Nat.{ℕ, _+_, _-_, _*_, _≤_}
+use Prim.Native.Nat.{ℕ, _+_, _-_, _*_, _≤_, _<_}
 use mathlib.Core.Path.{_≡_}
+use mathlib.Core.Bool.{Bool, cond}
 use mathlib.Core.List.{List, [], _∷_}
-use lib.Dec.{T}
-use lib.ListN.{length, take, drop}
+use lib.Dec.{T, eqb, ltb}
+use lib.ListN.{length, getD, take, drop}
 use Rattle.event.specs.declared.Part.{Part}
 use Rattle.event.specs.declared.Row.{Row}
 use Rattle.event.specs.Parser.{Result, Parser, _>>=_, _>>_, give, finish, each}
 use Rattle.event.specs.Scanning.{storeWords, Writes}
-use Rattle.rcnp_layout.specs.Event.{VdcWord, idOf, formOf}
+use Rattle.event.specs.Writing.{ofKind, noRow}
+use Rattle.rcnp_layout.specs.Event.{VdcWord, scaler, vdc, idOf, formOf}
 use Rattle.rcnp_layout.specs.Layout.{vdcWord, allowedSize}
 use Rattle.rcnp_layout.specs.Writing.{sumRegion}
 use Rattle.rcnp_writer.specs.RowWords.{rowWords}
@@ -47,3 +49,24 @@ pub record Filled (rs : List Row) (i j at end : ℕ) (before after : List ℕ) :
   pub counted : end ≡ at + length (wordsIn rs i (j - i))
   pub few : end ≤ at + 2 * (j - i)
   pub stored : after ≡ storeWords 16 before at (wordsIn rs i (j - i))
+
+-- how many rows of one word each follow a row: as many as its size says, where it is the own row of a region that has no scalers
+abbrev pub runWords : Row → ℕ
+runWords r = cond (ofKind 32 r) (cond (eqb (r .unit) (idOf scaler)) 0 (r .channel)) 0
+
+-- a word of the chamber
+abbrev pub ofChamber : Row → Bool
+ofChamber r = ltb 34 (r .kind)
+
+-- which they are, after a region's own row
+abbrev pub ofRun : (own : Row) → Row → Bool
+ofRun own r = cond (eqb (own .unit) (idOf vdc)) (ofChamber r) (ofKind 33 r)
+
+-- n rows from `first` on are there, and such
+pub record RunAt (such : Row → Bool) (rs : List Row) (first n : ℕ) : Type 0 where
+  pub inside : first + n ≤ length rs
+  pub each : (k : ℕ) → k < n → T (such (getD rs (first + k) noRow))
+
+-- after every row stand as many as it says: so it is in rows that were judged
+pub record Runs (rs : List Row) : Type 0 where
+  pub at : (i : ℕ) → i < length rs → RunAt (ofRun (getD rs i noRow)) rs (i + 1) (runWords (getD rs i noRow))

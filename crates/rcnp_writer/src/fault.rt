@@ -5,6 +5,7 @@ use event::refusal;
 use rcnp_format::allows_size;
 use rcnp_format::has_form;
 ghost use mathlib.Core.Path.{_≡_};
+ghost use mathlib.Core.Bool.{cond};
 ghost use Rattle.rcnp_writer.specs.Faults.{headerFault, sumFault, datumFault, vdcFault};
 
 // A region's own row: its id, a size of 12 bits that the id allows, 0.
@@ -47,21 +48,29 @@ pub(crate) fn datum_fault(row: Row, kind: u32, channel: u32, end: u32) -> u32
     refusal::FIELD
 }
 
-// A row of a VDC region: a module's header, or a datum where the region has begun.
+// A row of a VDC region: a module's header, or a datum where the region has begun. (The limits are chosen by the kind, so that good rows meet no branch by it:
+// headers and data alternate in no order.)
 pub(crate) fn vdc_fault(row: Row, begun: bool) -> u32
     ensures { λ r. ⌜ r ≡ vdcFault begun row ⌝ }
 {
-    if row.kind == kind::VDC_MODULE {
-        if (row.unit < 256) & ((row.channel < 8) & (row.datum < 8)) {
-            return 0;
-        }
-        return refusal::FIELD;
+    if row.kind < kind::VDC_MODULE {
+        return refusal::KIND;
     }
-    if begun & (kind::VDC_DATUM == row.kind) {
-        if (row.unit == 0) & ((row.channel < 32) & (row.datum < 1024)) {
-            return 0;
-        }
-        return refusal::FIELD;
+    if pick(begun, kind::VDC_DATUM, kind::VDC_MODULE) < row.kind {
+        return refusal::KIND;
     }
-    refusal::KIND
+    let head = row.kind == kind::VDC_MODULE;
+    let unit = row.unit < pick(head, 256, 1);
+    let channel = row.channel < pick(head, 8, 32);
+    let datum = row.datum < pick(head, 8, 1024);
+    if unit & (channel & datum) {
+        return 0;
+    }
+    refusal::FIELD
+}
+
+fn pick(first: bool, a: u32, b: u32) -> u32
+    ensures { λ r. ⌜ r ≡ cond first a b ⌝ }
+{
+    if first { a } else { b }
 }

@@ -1,7 +1,9 @@
 // The words of rows, stored where there is room for them. The rows were judged before, so that each says its words by its kind.
 use crate::word::field_word;
+use crate::word::vdc_word;
 use event::Row;
 use event::kind;
+use event::rows::fitting;
 use event::rows::row_at;
 use event::words::part_start;
 use event::words::store_word16;
@@ -10,10 +12,11 @@ ghost use mathlib.Core.Path.{_≡_};
 ghost use lib.ListN.{length};
 ghost use denote.Ref.{now};
 ghost use Rattle.event.specs.Parser.{each};
-ghost use Rattle.event.specs.Writing.{rowsIn};
+ghost use Rattle.event.specs.Words.{storeWord};
+ghost use Rattle.event.specs.Writing.{rowsIn, rowAt, ofKind};
 ghost use Rattle.event.specs.Scanning.{storeWords};
 ghost use Rattle.rcnp_writer.specs.RowWords.{rowWords};
-ghost use Rattle.rcnp_writer.specs.Parts.{Filled};
+ghost use Rattle.rcnp_writer.specs.Parts.{runWords, ofChamber, ofRun, RunAt, Runs, Filled};
 
 // Rows that were written: the place after them, and the number of words up to there.
 pub(crate) struct Written {
@@ -39,21 +42,67 @@ fn store_row(words: &mut [u16], at: usize, row: Row) -> usize
     at + 1
 }
 
-// Words as they are, as long as rows of such stand there from row `first` on, from word `at` on: how many.
-fn store_words(rows: &[u32], first: usize, words: &mut [u16], at: usize) -> usize
-    requires { ⌜ (first ≤ length (rowsIn (now rows))) × (at ≤ 2 * first) ⌝ }
-    ensures { λ r. ⌜ Filled (rowsIn (now (rows .entry))) first (first + r) at (at + r) (now (words .entry)) (now (words .exit)) ⌝ }
+// How many rows of one word each follow a region's own row: as many as its size says, but for scalers.
+fn run_words(row: Row) -> usize
+    ensures { λ r. ⌜ r ≡ runWords row ⌝ }
 {
+    if row.kind != kind::REGION {
+        return 0;
+    }
+    if row.unit == rcnp_format::SCALER {
+        return 0;
+    }
+    row.channel as usize
+}
+
+// A row that is there.
+fn row_there(rows: &[u32], at: usize) -> Row
+    requires { ⌜ at < length (rowsIn (now rows)) ⌝ }
+    ensures { λ r. ⌜ r ≡ rowAt (now (rows .entry)) at ⌝ }
+{
+    let i = at * 4;
+    Row {
+        kind: rows[i],
+        unit: rows[i + 1],
+        channel: rows[i + 2],
+        datum: rows[i + 3],
+    }
+}
+
+// A word where there is room for it.
+fn put_word(words: &mut [u16], at: usize, word: usize)
+    requires { ⌜ at < length (now words) ⌝ }
+    ensures { λ _. ⌜ now (words .exit) ≡ storeWord 16 (now (words .entry)) at word ⌝ }
+{
+    words[at] = (word % 65536) as u16;
+}
+
+// n words as they are, from row `first` on, from word `at` on: those that fit, so that the loop has no test.
+fn store_words(rows: &[u32], first: usize, n: usize, words: &mut [u16], at: usize)
+    requires { ⌜ RunAt (ofKind 33) (rowsIn (now rows)) first n × (at ≤ 2 * first) ⌝ }
+    ensures { λ _. ⌜ Filled (rowsIn (now (rows .entry))) first (first + n) at (at + n) (now (words .entry)) (now (words .exit)) ⌝ }
+{
+    let most = fitting(n, at, words.len());
     let mut k: usize = 0;
-    while first + k < rows.len() / 4 {
-        let row = row_at(rows, first + k);
-        if row.kind != kind::REGION_WORD {
-            return k;
-        }
-        store_word16(words, at + k, row.datum as usize);
+    while k < most {
+        let row = row_there(rows, first + k);
+        put_word(words, at + k, row.datum as usize);
         k += 1;
     }
-    k
+}
+
+// n words of the chamber, likewise.
+fn store_chamber(rows: &[u32], first: usize, n: usize, words: &mut [u16], at: usize)
+    requires { ⌜ RunAt ofChamber (rowsIn (now rows)) first n × (at ≤ 2 * first) ⌝ }
+    ensures { λ _. ⌜ Filled (rowsIn (now (rows .entry))) first (first + n) at (at + n) (now (words .entry)) (now (words .exit)) ⌝ }
+{
+    let most = fitting(n, at, words.len());
+    let mut k: usize = 0;
+    while k < most {
+        let row = row_there(rows, first + k);
+        put_word(words, at + k, vdc_word(row));
+        k += 1;
+    }
 }
 
 // The rows from row `first` on, up to the next region's own or the last one, from word `at` on.
@@ -74,18 +123,33 @@ fn store_rows(rows: &[u32], first: usize, words: &mut [u16], at: usize) -> Writt
     Written { next: i, count }
 }
 
-// The region whose own row is row `first`, at the front of the words. Most regions have words as they are, and these are stored in a loop of their own.
+// The rows of one word each that follow a region's own row, from row `first` on.
+fn store_run(rows: &[u32], own: Row, first: usize, n: usize, words: &mut [u16], at: usize)
+    requires { ⌜ RunAt (ofRun own) (rowsIn (now rows)) first n × (at ≤ 2 * first) ⌝ }
+    ensures { λ _. ⌜ Filled (rowsIn (now (rows .entry))) first (first + n) at (at + n) (now (words .entry)) (now (words .exit)) ⌝ }
+{
+    if own.unit == rcnp_format::VDC {
+        store_chamber(rows, first, n, words, at);
+    } else {
+        store_words(rows, first, n, words, at);
+    }
+}
+
+// The region whose own row is row `first`, at the front of the words. Rows of one word each are stored in loops of their own.
 fn write_region(rows: &[u32], first: usize, words: &mut [u16]) -> Written
-    requires { ⌜ first < length (rowsIn (now rows)) ⌝ }
+    requires { ⌜ (first < length (rowsIn (now rows))) × Runs (rowsIn (now rows)) ⌝ }
     ensures { λ r. ⌜ (first < r .next) × Filled (rowsIn (now (rows .entry))) first (r .next) 0 (r .count) (now (words .entry)) (now (words .exit)) ⌝ }
 {
-    let at = store_row(words, 0, row_at(rows, first));
-    let n = store_words(rows, first + 1, words, at);
+    let row = row_at(rows, first);
+    let at = store_row(words, 0, row);
+    let n = run_words(row);
+    store_run(rows, row, first + 1, n, words, at);
     store_rows(rows, first + 1 + n, words, at + n)
 }
 
 // All regions, each in the part of the words that starts at its place.
 pub(crate) fn write_regions(rows: &[u32], words: &mut [u16])
+    requires { ⌜ Runs (rowsIn (now rows)) ⌝ }
     ensures { λ _. ⌜ now (words .exit) ≡ storeWords 16 (now (words .entry)) 0 (each rowWords (rowsIn (now (rows .entry)))) ⌝ }
 {
     let mut i: usize = 0;

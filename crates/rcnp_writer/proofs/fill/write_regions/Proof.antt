@@ -21,8 +21,11 @@ abbrev μ-loop : tie.MeasureT-loop
 
 -- A turn: a row is left.
 module _ (t : tie.In-loop Inv-loop μ-loop) where
+  abbrev entry : tie.Start Inv-loop μ-loop
+  entry = t .before .before .before .before
+
   abbrev elements : List ℕ
-  elements = t .before .before .before .before .args .rows .now
+  elements = entry .args .rows .now
 
   below : t .before .loop .i < length (rowsIn elements)
   below = omega (arith, t .loop-test .taken, rows-count elements)
@@ -66,7 +69,7 @@ write-regions-spec =
     (λ c. omega (arith, fits c))
     (λ c. omega (arith, fits c))
     (λ c. search needs)
-    (λ c κs. below (c .before .before))
+    (λ c κs. let t = c .before .before in (below t, entry t .pre))
     add-at
     loop-less
     loop-again

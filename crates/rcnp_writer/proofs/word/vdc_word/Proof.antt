@@ -1,15 +1,14 @@
 -- `word::vdc_word` meets its contract. Assumes nothing.
-use mathlib.Core.Path.{sym}
-use borrow.Author.Tests.{eq-eqb, ne-eqb}
+use native.Mathlib.Omega.{arith}
+use lib.Dec.{eqb}
+use Rattle.event.specs.declared.Row.{Row}
+use Rattle.rcnp_writer.proofs.VdcWords.{at-most, more, vdc-summed}
 use borrow.Author.Needs.{needs}
 use Rattle.rcnp_writer.proofs.word.vdc_word.Statement.{statement}
 use Rattle.rcnp_writer.proofs.word.vdc_word.Tie as tie
 
-abbrev of-head : tie.After-struct-known4 → tie.Then1
-of-head c = c .before .before .before
-
-abbrev of-datum : tie.After-struct-known6 → tie.Else1
-of-datum c = c .before .before
+abbrev given : tie.After-only-if → Row
+given c = c .before .before .before .before .before .args .row
 
 pub vdc-word-spec : {M : Type 1} → statement M
 vdc-word-spec =
@@ -23,9 +22,7 @@ vdc-word-spec =
     (λ c. search needs)
     (λ c. search needs)
     (λ c. search needs)
-    (λ c. rw (eq-eqb 35 _ (sym (of-head c .if1 .taken))))
     (λ c. search needs)
-    (λ c. search needs)
-    (λ c. search needs)
-    (λ c. search needs)
-    (λ c. rw (ne-eqb 35 _ (λ e. of-datum c .if1 .left (sym e)))))
+    (λ c κs. search needs)
+    (λ c. omega (arith, at-most (eqb (given c .kind) 35) (more (given c)) (c .only-if .ensures)))
+    (λ c. vdc-summed (given c) (c .only-if .ensures)))
