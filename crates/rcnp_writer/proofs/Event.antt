@@ -112,6 +112,12 @@ module _ (rs : List Row) where
       let l : rs ≡ rows e = s .1 ∙ ap (rows e ++_) (nil r (ends-parts 21 (several region atSum) sumRegion 0 rs e j r h)) ∙ append-nil (rows e) in
       (l, omega (arith, s .2, ap length l))
 
+  runs-of : {e : Event} {j : ℕ} {r : List Row} → parts 0 rs ≡ ok e j r → Runs rs
+  runs-of {e} h = subst Runs (sym (taken-rows h .0)) (rows-runs e)
+
+  pub taken-runs : {k : ℕ} → Taken words (parts 0 rs) k → Runs rs
+  taken-runs t = runs-of (t .parsed)
+
   taken-words : {e : Event} {j : ℕ} {r : List Row} → parts 0 rs ≡ ok e j r → each rowWords rs ≡ words e
   taken-words {e} h = ap (each rowWords) (taken-rows h .0) ∙ words-of-rows e
 
@@ -150,9 +156,8 @@ module _ (rs : List Row) where
   pub counted-taken : {result : Answer} {k : ℕ} → Counted result → result ≡ answer.Accepted k → Taken words (lastly summed 22 parts 0 rs) k
   counted-taken s e = accepted-scan words (lastly summed 22 parts 0 rs) (rw e at s)
 
-  -- its rows are those of an event
-  pub taken-runs : {k : ℕ} → Taken words (lastly summed 22 parts 0 rs) k → Runs rs
-  taken-runs t = subst Runs (sym (taken-rows (lastly-taken summed 22 parts 0 rs (t .parsed) .0) .0)) (rows-runs (t .value))
+  pub counted-runs : {k : ℕ} → Taken words (lastly summed 22 parts 0 rs) k → Runs rs
+  counted-runs t = runs-of (lastly-taken summed 22 parts 0 rs (t .parsed) .0)
 
   -- its words
   pub event-filled : {k : ℕ} → Taken words (lastly summed 22 parts 0 rs) k → {b after : List ℕ} → after ≡ storeWords 16 b 0 (each rowWords rs)

@@ -16,6 +16,7 @@ use Rattle.rcnp_layout.specs.Event.{VdcWord, head, datum, Form, inputRegister, 
 use Rattle.rcnp_layout.specs.Layout.{scalerWords, vdcWord, contentWords, regionWords, sumWords, words, total, wordRow, scalerRow, nextIndex, vdcRow, contentRows, regionRows, sumRows, rows}
 use Rattle.rcnp_layout.proofs.Sums.{total-append}
 use Rattle.rcnp_writer.specs.RowWords.{fieldWord, rowWords}
+use Rattle.rcnp_writer.specs.Parts.{totalTo, Summed}
 
 content-words : (f : Form) (c : Content f) → each rowWords (contentRows f c) ≡ contentWords f c
 content-words inputRegister w = refl
@@ -33,23 +34,44 @@ words-of-rows e = each-append rowWords (each regionRows (e .regions)) (sumRows (
     (ap (each rowWords) (sym (prints-each regionRows alone tt (e .regions)))
     ∙ each-prints rowWords regionWords (λ u. regionRows) alone (λ u g. rw (content-words (g .form) (g .content))) tt (e .regions))
 
--- the sum of the words of the first i rows
-abbrev pub totalTo : List Row → ℕ → ℕ
-totalTo rs i = total (each rowWords (take i rs))
-
 one-more : (rs : List Row) (i : ℕ) → i < length rs → totalTo rs (suc i) ≡ totalTo rs i + total (rowWords (getD rs i noRow))
 one-more [] i h = absurd (omega arith)
 one-more (r ∷ rs) zero h = omega (arith, total-append (rowWords r) [])
 one-more (r ∷ rs) (suc i) h =
     omega (arith, total-append (rowWords r) (each rowWords (take (suc i) rs)), total-append (rowWords r) (each rowWords (take i rs)), one-more rs i (omega arith))
 
--- one row more, as the loop takes it
-pub sum-next : (rs : List Row) (i sum : ℕ) {next t : ℕ} {r : Row} → i < length rs → sum % 65536 ≡ totalTo rs i % 65536 → r ≡ getD rs i noRow → t ≡ total (rowWords r)
-    → next ≡ (sum + t) % 2 ^ 64 → next % 65536 ≡ totalTo rs (i + 1) % 65536
-sum-next rs i sum {t = t} h s e q p =
-    let n : i + 1 ≡ suc i = omega arith in
-    let m : totalTo rs (suc i) ≡ totalTo rs i + t = one-more rs i h ∙ ap (totalTo rs i +_) (sym (q ∙ ap (λ (x : Row). total (rowWords x)) e)) in
-    rw (n, m, p) (omega arith)
+-- no row, and one row of one word more
+pub summed-none : (rs : List Row) (i : ℕ) → Summed rs i (i + 0) 0
+summed-none rs i =
+    let e : i + 0 ≡ i = omega arith in
+    let z : totalTo rs i + 0 ≡ totalTo rs i = omega arith in
+    record { sums = rw (e, z) }
+
+pub summed-one : {rs : List Row} {i sum next w : ℕ} (k : ℕ) {r : Row} → Summed rs i (i + k) sum → i + k < length rs → r ≡ getD rs (i + k) noRow → rowWords r ≡ w ∷ []
+    → next ≡ (sum + w) % 2 ^ 64 → Summed rs i (i + (k + 1)) next
+summed-one {rs} {i} {sum} {next} {w} k {r} s h e q p =
+    let n : i + (k + 1) ≡ suc (i + k) = omega arith in
+    let t : total (rowWords (getD rs (i + k) noRow)) ≡ w = rw (← e, q) (omega arith) in
+    let m : totalTo rs (suc (i + k)) ≡ totalTo rs (i + k) + w = one-more rs (i + k) h ∙ ap (totalTo rs (i + k) +_) t in
+    record { sums = rw (n, m, p) (omega (arith, s .sums)) }
+
+-- sums that are the same modulo 65,536
+wrapped : (a : ℕ) → a % 2 ^ 64 % 65536 ≡ a % 65536
+wrapped a = omega arith
+
+added : (a b c : ℕ) → a % 65536 ≡ b % 65536 → (a + c) % 65536 ≡ (b + c) % 65536
+added a b c e = omega arith
+
+-- a region's own row and those that follow it, as the loop takes them
+pub sum-next : (rs : List Row) (i sum n : ℕ) {next mid t run : ℕ} {r : Row} → i < length rs → sum % 65536 ≡ totalTo rs i % 65536 → r ≡ getD rs i noRow → t ≡ total (rowWords r)
+    → Summed rs (i + 1) (i + 1 + n) run → mid ≡ (sum + t) % 2 ^ 64 → next ≡ (mid + run) % 2 ^ 64 → next % 65536 ≡ totalTo rs (i + (1 + n)) % 65536
+sum-next rs i sum n {next} {mid} {t} {run} h s e q u p v =
+    let one : i + 1 ≡ suc i = omega arith in
+    let all : i + (1 + n) ≡ i + 1 + n = omega arith in
+    let m : totalTo rs (i + 1) ≡ totalTo rs i + t = rw one (one-more rs i h ∙ ap (totalTo rs i +_) (sym (q ∙ ap (λ (x : Row). total (rowWords x)) e))) in
+    let w : (totalTo rs i + t + run) % 65536 ≡ totalTo rs (i + 1 + n) % 65536 = rw m at (u .sums) in
+    let half : mid % 65536 ≡ (totalTo rs i + t) % 65536 = rw p (wrapped (sum + t) ∙ added sum (totalTo rs i) t s) in
+    rw (all, v) (wrapped (mid + run) ∙ added mid (totalTo rs i + t) run half ∙ w)
 
 pub summed-up : (rs : List Row) (i sum : ℕ) → sum % 65536 ≡ totalTo rs i % 65536 → length rs ≤ i → sum % 65536 ≡ total (each rowWords rs) % 65536
 summed-up rs i sum s h = s ∙ ap (λ (l : List Row). total (each rowWords l) % 65536) (take-all i rs h)

@@ -1,6 +1,6 @@
 -- The parts of an event as the code writes them (the contracts of private functions).
 -- Assumes nothing.
-use Prim.Native.Nat.{ℕ, _+_, _-_, _*_, _≤_, _<_}
+use Prim.Native.Nat.{ℕ, _+_, _-_, _*_, _%_, _≤_, _<_}
 use mathlib.Core.Path.{_≡_}
 use mathlib.Core.Bool.{Bool, cond}
 use mathlib.Core.List.{List, [], _∷_}
@@ -12,7 +12,7 @@ use Rattle.event.specs.Parser.{Result, Parser, _>>=_, _>>_, give, finish, each}
 use Rattle.event.specs.Scanning.{storeWords, Writes}
 use Rattle.event.specs.Writing.{ofKind, noRow}
 use Rattle.rcnp_layout.specs.Event.{VdcWord, scaler, vdc, idOf, formOf}
-use Rattle.rcnp_layout.specs.Layout.{vdcWord, allowedSize}
+use Rattle.rcnp_layout.specs.Layout.{vdcWord, total, allowedSize}
 use Rattle.rcnp_layout.specs.Writing.{sumRegion}
 use Rattle.rcnp_writer.specs.RowWords.{rowWords}
 
@@ -70,3 +70,11 @@ pub record RunAt (such : Row → Bool) (rs : List Row) (first n : ℕ) : Type 0 
 -- after every row stand as many as it says: so it is in rows that were judged
 pub record Runs (rs : List Row) : Type 0 where
   pub at : (i : ℕ) → i < length rs → RunAt (ofRun (getD rs i noRow)) rs (i + 1) (runWords (getD rs i noRow))
+
+-- the sum of the words of the first i rows
+abbrev pub totalTo : List Row → ℕ → ℕ
+totalTo rs i = total (each rowWords (take i rs))
+
+-- the words of the rows from i to j have this sum, modulo 65,536
+pub record Summed (rs : List Row) (i j sum : ℕ) : Type 0 where
+  pub sums : (totalTo rs i + sum) % 65536 ≡ totalTo rs j % 65536

@@ -1,4 +1,6 @@
 // The words of rows, stored where there is room for them. The rows were judged before, so that each says its words by its kind.
+use crate::run::row_there;
+use crate::run::run_words;
 use crate::word::field_word;
 use crate::word::vdc_word;
 use event::Row;
@@ -13,10 +15,10 @@ ghost use lib.ListN.{length};
 ghost use denote.Ref.{now};
 ghost use Rattle.event.specs.Parser.{each};
 ghost use Rattle.event.specs.Words.{storeWord};
-ghost use Rattle.event.specs.Writing.{rowsIn, rowAt, ofKind};
+ghost use Rattle.event.specs.Writing.{rowsIn, ofKind};
 ghost use Rattle.event.specs.Scanning.{storeWords};
 ghost use Rattle.rcnp_writer.specs.RowWords.{rowWords};
-ghost use Rattle.rcnp_writer.specs.Parts.{runWords, ofChamber, ofRun, RunAt, Runs, Filled};
+ghost use Rattle.rcnp_writer.specs.Parts.{ofChamber, ofRun, RunAt, Runs, Filled};
 
 // Rows that were written: the place after them, and the number of words up to there.
 pub(crate) struct Written {
@@ -40,33 +42,6 @@ fn store_row(words: &mut [u16], at: usize, row: Row) -> usize
     }
     store_word16(words, at, field_word(row));
     at + 1
-}
-
-// How many rows of one word each follow a region's own row: as many as its size says, but for scalers.
-fn run_words(row: Row) -> usize
-    ensures { λ r. ⌜ r ≡ runWords row ⌝ }
-{
-    if row.kind != kind::REGION {
-        return 0;
-    }
-    if row.unit == rcnp_format::SCALER {
-        return 0;
-    }
-    row.channel as usize
-}
-
-// A row that is there.
-fn row_there(rows: &[u32], at: usize) -> Row
-    requires { ⌜ at < length (rowsIn (now rows)) ⌝ }
-    ensures { λ r. ⌜ r ≡ rowAt (now (rows .entry)) at ⌝ }
-{
-    let i = at * 4;
-    Row {
-        kind: rows[i],
-        unit: rows[i + 1],
-        channel: rows[i + 2],
-        datum: rows[i + 3],
-    }
 }
 
 // A word where there is room for it.

@@ -3,6 +3,7 @@ mod content;
 mod fault;
 mod fill;
 mod region;
+mod run;
 mod sum;
 mod whole;
 mod word;

@@ -1,16 +1,20 @@
 // The sum of an event's words, from its rows: no word is stored before it is known.
+use crate::run::row_there;
+use crate::run::run_words;
 use crate::word::field_word;
+use crate::word::vdc_word;
 use event::Row;
 use event::kind;
 use event::rows::row_at;
 use std::num::wrapping_add_usize;
-ghost use Prim.Native.Nat.{_%_};
+ghost use Prim.Native.Nat.{_+_, _%_};
 ghost use mathlib.Core.Path.{_≡_};
 ghost use denote.Ref.{now};
 ghost use Rattle.event.specs.Parser.{each};
-ghost use Rattle.event.specs.Writing.{rowsIn};
+ghost use Rattle.event.specs.Writing.{rowsIn, ofKind};
 ghost use Rattle.rcnp_layout.specs.Layout.{total};
 ghost use Rattle.rcnp_writer.specs.RowWords.{rowWords};
+ghost use Rattle.rcnp_writer.specs.Parts.{ofChamber, ofRun, RunAt, Runs, Summed};
 
 // The sum of the words that a row says. Most rows are words as they are.
 fn row_total(row: Row) -> usize
@@ -25,16 +29,60 @@ fn row_total(row: Row) -> usize
     field_word(row)
 }
 
+// The sum of n words as they are, from row `first` on, modulo 2^64.
+fn sum_words(rows: &[u32], first: usize, n: usize) -> usize
+    requires { ⌜ RunAt (ofKind 33) (rowsIn (now rows)) first n ⌝ }
+    ensures { λ r. ⌜ Summed (rowsIn (now (rows .entry))) first (first + n) r ⌝ }
+{
+    let mut sum: usize = 0;
+    let mut k: usize = 0;
+    while k < n {
+        let row = row_there(rows, first + k);
+        sum = wrapping_add_usize(sum, row.datum as usize);
+        k += 1;
+    }
+    sum
+}
+
+// That of n words of the chamber.
+fn sum_chamber(rows: &[u32], first: usize, n: usize) -> usize
+    requires { ⌜ RunAt ofChamber (rowsIn (now rows)) first n ⌝ }
+    ensures { λ r. ⌜ Summed (rowsIn (now (rows .entry))) first (first + n) r ⌝ }
+{
+    let mut sum: usize = 0;
+    let mut k: usize = 0;
+    while k < n {
+        let row = row_there(rows, first + k);
+        sum = wrapping_add_usize(sum, vdc_word(row));
+        k += 1;
+    }
+    sum
+}
+
+// That of the rows of one word each that follow a region's own row, from row `first` on.
+fn sum_run(rows: &[u32], own: Row, first: usize, n: usize) -> usize
+    requires { ⌜ RunAt (ofRun own) (rowsIn (now rows)) first n ⌝ }
+    ensures { λ r. ⌜ Summed (rowsIn (now (rows .entry))) first (first + n) r ⌝ }
+{
+    if own.unit == rcnp_format::VDC {
+        return sum_chamber(rows, first, n);
+    }
+    sum_words(rows, first, n)
+}
+
 // The sum of the words of all rows, modulo 65,536. It is taken modulo 2^64 on the way.
 pub(crate) fn row_sum(rows: &[u32]) -> usize
+    requires { ⌜ Runs (rowsIn (now rows)) ⌝ }
     ensures { λ r. ⌜ r ≡ total (each rowWords (rowsIn (now (rows .entry)))) % 65536 ⌝ }
 {
     let mut sum: usize = 0;
     let mut i: usize = 0;
     while i < rows.len() / 4 {
         let row = row_at(rows, i);
-        sum = wrapping_add_usize(sum, row_total(row));
-        i += 1;
+        let n = run_words(row);
+        let run = sum_run(rows, row, i + 1, n);
+        sum = wrapping_add_usize(wrapping_add_usize(sum, row_total(row)), run);
+        i += 1 + n;
     }
     sum % 65536
 }

@@ -9,7 +9,7 @@ use Rattle.event.proofs.Stores.{write-uneven, write-large, write-crowded, write
 use Rattle.rcnp_layout.specs.Event.{Event}
 use Rattle.rcnp_layout.specs.Layout.{words, summed, largestEvent}
 use Rattle.rcnp_layout.specs.Writing.{partsWith}
-use Rattle.rcnp_writer.proofs.Event.{counted-taken, counted-refused, taken-runs, event-filled, event-fits}
+use Rattle.rcnp_writer.proofs.Event.{counted-taken, counted-refused, counted-runs, event-filled, event-fits}
 use borrow.Author.Needs.{needs}
 use Rattle.rcnp_writer.proofs.write.Statement.{statement}
 use Rattle.rcnp_writer.proofs.write.Tie as tie
@@ -97,6 +97,6 @@ write-spec =
     returns-2
     returns-3
     returns-4
-    (λ c κs. let k = c .before .before .before in taken-runs (rowsIn (elements (counted k))) (taken k))
+    (λ c κs. let k = c .before .before .before in counted-runs (rowsIn (elements (counted k))) (taken k))
     (λ c. search needs)
     returns-5)

@@ -1,12 +1,15 @@
 -- `sum::row_sum` meets its contract. Assumes nothing.
-use Prim.Native.Nat.{ℕ, _-_, _%_, _≤_, _<_}
+use Prim.Native.Nat.{ℕ, _+_, _-_, _/_, _%_, _≤_, _<_}
 use native.Mathlib.Omega.{arith}
 use mathlib.Core.List.{List}
 use mathlib.Core.Path.{_≡_, refl}
 use lib.ListN.{length}
+use Rattle.event.specs.declared.Row.{Row}
 use Rattle.event.specs.Writing.{rowsIn}
 use Rattle.event.proofs.RowsIn.{rows-count}
-use Rattle.rcnp_writer.proofs.RowTotals.{totalTo, sum-next, summed-up}
+use Rattle.rcnp_writer.specs.Parts.{ofRun, RunAt, totalTo}
+use Rattle.rcnp_writer.proofs.RowTotals.{sum-next, summed-up}
+use Rattle.rcnp_writer.proofs.RunsOfRows.{run-at}
 use borrow.Author.Needs.{needs}
 use Rattle.rcnp_writer.proofs.sum.row_sum.Statement.{statement}
 use Rattle.rcnp_writer.proofs.sum.row_sum.Tie as tie
@@ -17,25 +20,46 @@ Inv-loop rows sum₀ i₀ sum i = (i ≤ length (rowsIn rows)) × (sum % 65536 �
 abbrev μ-loop : tie.MeasureT-loop
 μ-loop rows sum₀ i₀ sum i = length (rowsIn rows) - i
 
--- A turn: the row was taken.
-module _ (c : tie.After-wrapping-add-usize Inv-loop μ-loop) where
-  abbrev row-summed : tie.After-row-total Inv-loop μ-loop
-  row-summed = c .before
+-- A turn: the row says how many follow it.
+module _ (w : tie.After-run-words Inv-loop μ-loop) where
+  abbrev read : tie.After-row-at Inv-loop μ-loop
+  read = w .before
 
-  abbrev turn : tie.In-loop Inv-loop μ-loop
-  turn = row-summed .before .before
+  abbrev turn : tie.At-loop Inv-loop μ-loop
+  turn = read .before .before
+
+  abbrev entry : tie.Start Inv-loop μ-loop
+  entry = turn .before .before
 
   abbrev elements : List ℕ
-  elements = turn .before .before .before .args .rows .now
+  elements = entry .args .rows .now
 
-  below : turn .before .loop .i < length (rowsIn elements)
-  below = omega (arith, turn .loop-test .taken, rows-count elements)
+  abbrev row : Row
+  row = read .row-at .result
+
+  below : turn .loop .i < length (rowsIn elements)
+  below = omega (arith, read .before .loop-test .taken, rows-count elements)
+
+  run : RunAt (ofRun row) (rowsIn elements) (turn .loop .i + 1) (w .run-words .result)
+  run = run-at row (entry .pre) below (read .row-at .ensures) (w .run-words .ensures)
+
+  ends : turn .loop .i + 1 + w .run-words .result ≤ length elements / 4
+  ends = omega (arith, run .inside, rows-count elements)
+
+-- They were summed.
+abbrev known : tie.After-wrapping-add-usize2 Inv-loop μ-loop → tie.After-run-words Inv-loop μ-loop
+known c = c .before .before .before .before
 
 loop-again : tie.Need-loop-again Inv-loop μ-loop
 loop-again c =
-    let l = turn c .before .loop in
-    let s = row-summed c in
-    (omega (arith, below c), sum-next (rowsIn (elements c)) (l .i) (l .sum) (below c) (l .inv .1) (s .before .row-at .ensures) (s .row-total .ensures) (c .wrapping-add-usize .ensures))
+    let w = known c in
+    let l = turn w .loop in
+    let half = c .before in
+    let own = half .before in (
+      omega (arith, run w .inside),
+      sum-next (rowsIn (elements w)) (l .i) (l .sum) (w .run-words .result) (below w) (l .inv .1) (read w .row-at .ensures) (own .row-total .ensures)
+          (own .before .sum-run .ensures) (half .wrapping-add-usize .ensures) (c .wrapping-add-usize2 .ensures),
+    )
 
 returns : tie.Need-returns Inv-loop μ-loop
 returns c =
@@ -52,8 +76,13 @@ row-sum-spec =
     (λ c. (omega arith, refl))
     (λ c κs. search needs)
     (λ c κs. search needs)
+    (λ c. omega (arith, ends c))
+    (λ c κs. run c)
     (λ c κs. search needs)
-    (λ c. omega (arith, turn c .loop-test .taken))
-    (λ c. omega (arith, below c))
+    (λ c κs. search needs)
+    (λ c κs. search needs)
+    (λ c. omega (arith, ends (known c)))
+    (λ c. omega (arith, ends (known c)))
+    (λ c. omega (arith, run (known c) .inside, below (known c)))
     loop-again
     returns)

@@ -8,7 +8,7 @@ use Rattle.event.proofs.Leads.{Taken}
 use Rattle.event.proofs.RowsIn.{rows-count}
 use Rattle.rcnp_layout.specs.Layout.{words}
 use Rattle.rcnp_layout.specs.Writing.{partsWith}
-use Rattle.rcnp_writer.proofs.Event.{count-refused, count-taken, last-row, sum-wrong, sum-right}
+use Rattle.rcnp_writer.proofs.Event.{count-refused, count-taken, taken-runs, last-row, sum-wrong, sum-right}
 use borrow.Author.Needs.{needs}
 use Rattle.rcnp_writer.proofs.whole.count_words.Statement.{statement}
 use Rattle.rcnp_writer.proofs.whole.count_words.Tie as tie
@@ -18,10 +18,10 @@ returns c =
     let w = c .before .before in
     count-refused (rowsIn (w .before .before .args .rows .now)) (w .judge-rows .ensures) (c .enum-told .given .1)
 
--- The parts were counted, and the rows summed.
-module _ (s : tie.After-row-sum) where
+-- The parts were counted.
+module _ (s : tie.After-known-told) where
   abbrev counted : tie.After-counted
-  counted = s .before .before
+  counted = s .before
 
   abbrev pass : tie.After-judge-rows
   pass = counted .before .before
@@ -34,8 +34,8 @@ module _ (s : tie.After-row-sum) where
 
 returns-2 : tie.Need-returns-2
 returns-2 c =
-    let s = c .before in
-    rw (← rows-count (elements s)) (sum-wrong (rowsIn (elements s)) (taken s) (s .row-sum .ensures) (c .if1 .taken))
+    let k = c .before .before in
+    rw (← rows-count (elements k)) (sum-wrong (rowsIn (elements k)) (taken k) (c .before .row-sum .ensures) (c .if1 .taken))
 
 pub count-words-spec : {M : Type 1} → statement M
 count-words-spec =
@@ -45,7 +45,7 @@ count-words-spec =
     (λ c. search needs)
     (λ c. search needs)
     returns
-    (λ c κs. search needs)
-    (λ c. let s = c .before in omega (arith, last-row (rowsIn (elements s)) (taken s) (s .row-sum .ensures), rows-count (elements s)))
+    (λ c κs. taken-runs (rowsIn (elements c)) (taken c))
+    (λ c. let k = c .before .before in omega (arith, last-row (rowsIn (elements k)) (taken k) (c .before .row-sum .ensures), rows-count (elements k)))
     returns-2
-    (λ c. let s = c .before in sum-right (rowsIn (elements s)) (taken s) (s .row-sum .ensures) (c .if1 .left)))
+    (λ c. let k = c .before .before in sum-right (rowsIn (elements k)) (taken k) (c .before .row-sum .ensures) (c .if1 .left)))

@@ -1,11 +1,11 @@
--- `fill::row_there` meets its contract. Assumes nothing.
+-- `run::row_there` meets its contract. Assumes nothing.
 use Prim.Native.Nat.{ℕ, _/_, _<_}
 use native.Mathlib.Omega.{arith}
 use lib.ListN.{length}
 use Rattle.event.proofs.RowsIn.{rows-count, row-there}
 use borrow.Author.Needs.{needs}
-use Rattle.rcnp_writer.proofs.fill.row_there.Statement.{statement}
-use Rattle.rcnp_writer.proofs.fill.row_there.Tie as tie
+use Rattle.rcnp_writer.proofs.run.row_there.Statement.{statement}
+use Rattle.rcnp_writer.proofs.run.row_there.Tie as tie
 
 -- the row lies in the elements
 inside : (s : tie.Start) → s .args .at < length (s .args .rows .now) / 4

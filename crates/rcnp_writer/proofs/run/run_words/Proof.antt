@@ -1,9 +1,9 @@
--- `fill::run_words` meets its contract. Assumes nothing.
+-- `run::run_words` meets its contract. Assumes nothing.
 use mathlib.Core.Path.{sym}
 use borrow.Author.Tests.{eq-eqb, ne-eqb}
 use borrow.Author.Needs.{needs}
-use Rattle.rcnp_writer.proofs.fill.run_words.Statement.{statement}
-use Rattle.rcnp_writer.proofs.fill.run_words.Tie as tie
+use Rattle.rcnp_writer.proofs.run.run_words.Statement.{statement}
+use Rattle.rcnp_writer.proofs.run.run_words.Tie as tie
 
 pub run-words-spec : {M : Type 1} → statement M
 run-words-spec =
