@@ -1,11 +1,13 @@
 -- The loops that judge the rows of a region, one for words as they are, for scalers and for the chamber: what a turn does. Over plain values.
 -- Assumes nothing.
-use Prim.Native.Nat.{ℕ, _+_, _≤_, _<_}
+use Prim.Native.Nat.{ℕ, zero, suc, _+_, _≤_, _<_}
 use native.Mathlib.Omega.{arith}
-use mathlib.Core.Path.{_≡_, refl, sym}
-use mathlib.Core.Bool.{Bool, true, false}
+use mathlib.Core.Path.{_≡_, refl, sym, subst}
+use mathlib.Core.Bool.{Bool, true, false, _&&_}
 use mathlib.Core.List.{List, []}
+use lib.Dec.{T, eqb, ltb}
 use lib.ListN.{length, getD, drop}
+use borrow.Author.Tests.{lt-ltb, eqb-true, eqb-false}
 use Rattle.event.specs.declared.Part.{Part}
 use Rattle.event.specs.declared.Part.the-variants.{Done, Refused}
 use Rattle.event.specs.declared.Row.{Row}
@@ -13,11 +15,13 @@ use Rattle.event.specs.Parser.{times, each, alone}
 use Rattle.event.specs.Words.{wordAlone}
 use Rattle.event.specs.Writing.{ofKind, noRow}
 use Rattle.event.specs.Scanning.{storeWords}
-use Rattle.event.proofs.CountedRows.{CountedTo, counted-done, counted-refused, counted-there, counted-next}
+use Rattle.event.proofs.Codes.{T-true}
+use Rattle.event.proofs.Elements.{both}
+use Rattle.event.proofs.CountedRows.{CountedTo, counted-begin, counted-done, counted-refused, counted-there, counted-next}
 use Rattle.event.proofs.WordStores.{past-the-end}
 use Rattle.rcnp_layout.specs.Layout.{scalerWords, wordRow, scalerRow, vdcRow, nextIndex, wordChecks, scalerChecks, vdcChecks, begins}
 use Rattle.rcnp_layout.specs.Writing.{word, scalerAt, vdcOf, vdcStands, vdcValue}
-use Rattle.rcnp_writer.specs.Faults.{datumFault, vdcFault}
+use Rattle.rcnp_writer.specs.Faults.{datumFault, vdcFault, lastKind, VdcRight, ChamberRight}
 use Rattle.rcnp_writer.specs.Parts.{vdcWords, Counts}
 
 -- no word is stored where there is no room
@@ -102,3 +106,36 @@ module _ {rs : List Row} {n first k at : ℕ} {begun : Bool} (h : Chamber rs n f
     unfolding vdcFault
     vdc-next f p = counted-next 16 vdcStands vdcOf (λ s. vdcRow) (vdcChecks 22) no-zeros (λ s x. (tt, tt)) h below e (rw (h .reached .holds .1) f)
         refl p (omega arith) (none at (vdcWords (vdcOf r))) refl
+
+-- the rows from `first` on are right, k of them, and one more
+abbrev pub RightTo : List Row → (first k : ℕ) → Type 0
+RightTo rs first k = (j : ℕ) → j < k → 0 ≡ vdcFault (ltb 0 j) (getD rs (first + j) noRow)
+
+pub right-next : (rs : List Row) (first k : ℕ) {most : ℕ} (right more : Bool) {r : Row} → (right ≡ true → RightTo rs first k) → most ≡ lastKind (ltb 0 k) → r ≡ getD rs (first + k) noRow
+    → VdcRight r most more → right && more ≡ true → RightTo rs first (k + 1)
+right-next rs first k right more before m e v t j h = go (eqb j k) refl
+  where
+    held : T right × T more
+    held = both right more (rw t tt)
+
+    go : (b : Bool) → eqb j k ≡ b → 0 ≡ vdcFault (ltb 0 j) (getD rs (first + j) noRow)
+    go true q = rw (eqb-true j k q, ← e) (v .kept (T-true more (held .1)) (ltb 0 k) m)
+    go false q = before (T-true right (held .0)) j (omega (arith, eqb-false j k q))
+
+one-after : (k : ℕ) → k + 1 ≡ suc k
+one-after k = omega arith
+
+-- rows that were found right, k of them
+module _ (rs : List Row) (n first : ℕ) (some : 1 ≤ first) (right : ChamberRight rs first n) where
+  chamber-first : Chamber rs n first (ltb 0 0) 0 (1 + 0)
+  chamber-first = counted-begin refl (omega (arith, right .inside)) (omega arith)
+
+  chamber-more : (k : ℕ) → k < n → Chamber rs n first (ltb 0 k) k (1 + k) → Chamber rs n first (ltb 0 (k + 1)) (k + 1) (1 + (k + 1))
+  chamber-more k h c = rw (lt-ltb 0 (k + 1) (omega arith)) (vdc-next c h refl (right .each k h) (omega arith))
+
+  chamber-to : (k : ℕ) → k ≤ n → Chamber rs n first (ltb 0 k) k (1 + k)
+  chamber-to zero h = chamber-first
+  chamber-to (suc k) h = subst (λ (j : ℕ). Chamber rs n first (ltb 0 j) j (1 + j)) (one-after k) (chamber-more k (omega arith) (chamber-to k (omega arith)))
+
+  pub chamber-right : Counts (each vdcWords) (times vdcValue begins n false first (drop first rs)) rs 1 (Done (first + n) (1 + n))
+  chamber-right = chamber-done (chamber-to n (omega arith)) (omega arith)

@@ -5,8 +5,8 @@ use native.Mathlib.Omega.{arith}
 use mathlib.Core.Path.{_≡_, refl, sym, _∙_}
 use mathlib.Core.Bool.{Bool, true, false, cond, _&&_}
 use mathlib.Core.List.{[]}
-use lib.Dec.{T, eqb, ltb, eqb→eq, ltb→lt, lt→ltb}
-use borrow.Author.Tests.{eq-eqb, ne-eqb, eqb-true, eqb-false, le-ltb}
+use lib.Dec.{T, eqb, ltb, leb, eqb→eq, ltb→lt, lt→ltb, leb→le}
+use borrow.Author.Tests.{eq-eqb, ne-eqb, eqb-true, eqb-false, le-ltb, le-leb}
 use Rattle.event.specs.declared.Row.{Row}
 use Rattle.event.specs.Rows.{row}
 use Rattle.event.specs.Writing.{sameRow}
@@ -17,7 +17,7 @@ use Rattle.event.proofs.RowFaults.{Judged, judged, Tested, tested, each-of, thr
 use Rattle.rcnp_layout.specs.Event.{idOf, sumId, formOf}
 use Rattle.rcnp_layout.specs.Layout.{regionRow, allowedSize}
 use Rattle.rcnp_layout.specs.Writing.{headerOf, headerRow, headerChecks}
-use Rattle.rcnp_writer.specs.Faults.{headerFault, sumFault, datumFault, vdcFault}
+use Rattle.rcnp_writer.specs.Faults.{headerFault, sumFault, datumFault, vdcFault, lastKind, VdcRight}
 
 -- a region's own row
 abbrev pub HeaderKeeps : Row → Type 0
@@ -102,7 +102,7 @@ module _ (begun : Bool) (r : Row) where
   pub vdc-below : r .kind < 35 → 21 ≡ vdcFault begun r
   vdc-below h = vdc-other (λ e. omega arith) (rw (ne-eqb 36 (r .kind) (λ e. omega arith)) (and-false begun))
 
-  pub vdc-above : {most : ℕ} → most ≡ cond begun 36 35 → most < r .kind → 21 ≡ vdcFault begun r
+  pub vdc-above : {most : ℕ} → most ≡ lastKind begun → most < r .kind → 21 ≡ vdcFault begun r
   vdc-above {most} m h = go begun refl
     where
       go : (b : Bool) → begun ≡ b → 21 ≡ vdcFault begun r
@@ -110,7 +110,7 @@ module _ (begun : Bool) (r : Row) where
       go false e = let top : most ≡ 35 = m ∙ rw e in vdc-other (λ k. omega arith) (rw e)
 
   -- those between: the limits of its fields by the kind
-  pub vdc-within : {most unit channel datum n : ℕ} {b : Bool} → 35 ≤ r .kind → most ≡ cond begun 36 35 → r .kind ≤ most
+  vdc-within : {most unit channel datum n : ℕ} {b : Bool} → 35 ≤ r .kind → most ≡ lastKind begun → r .kind ≤ most
       → unit ≡ cond (eqb (r .kind) 35) 256 1 → channel ≡ cond (eqb (r .kind) 35) 8 32 → datum ≡ cond (eqb (r .kind) 35) 8 1024
       → ltb (r .unit) unit && (ltb (r .channel) channel && ltb (r .datum) datum) ≡ b → n ≡ cond b 0 22 → n ≡ vdcFault begun r
   vdc-within {most} {unit} {channel} {datum} {n} {b} low m high u c d t q = go (eqb (r .kind) 35) refl
@@ -135,3 +135,19 @@ module _ (begun : Bool) (r : Row) where
           let other = eqb-false (r .kind) 35 e in
           let datum-there : r .kind ≡ 36 = omega (arith, at-most) in
           vdc-datum other (rw (begun-there begun refl other, eq-eqb 36 (r .kind) (sym datum-there))) (rw (u₁, c₁, d₁, below-one (r .unit)) at t) q
+
+-- the rules in one test
+module _ (r : Row) {unit channel datum : ℕ} (u : unit ≡ cond (eqb (r .kind) 35) 256 1) (c : channel ≡ cond (eqb (r .kind) 35) 8 32) (d : datum ≡ cond (eqb (r .kind) 35) 8 1024) where
+  abbrev fields : Bool
+  fields = ltb (r .unit) unit && (ltb (r .channel) channel && ltb (r .datum) datum)
+
+  pub vdc-right : (most : ℕ) {right : Bool} → right ≡ (leb 35 (r .kind) && leb (r .kind) most) && fields → VdcRight r most right
+  vdc-right most {right} e = record {
+    kept = λ t begun m.
+        let x = both (leb 35 (r .kind) && leb (r .kind) most) fields (rw (← e, t) tt) in
+        let y = both (leb 35 (r .kind)) (leb (r .kind) most) (x .0) in
+        vdc-within begun r (leb→le 35 (r .kind) (y .0)) m (leb→le (r .kind) most (y .1)) u c d (T-true fields (x .1)) refl;
+    broken = λ f begun m low high.
+        let q : fields ≡ false = sym (rw (le-leb 35 (r .kind) low, le-leb (r .kind) most high) at e) ∙ f in
+        vdc-within begun r low m high u c d q refl;
+  }
