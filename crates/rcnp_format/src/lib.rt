@@ -10,9 +10,7 @@ pub const SMALLEST_EVENT: usize = 2;
 
 pub const LARGEST_EVENT: usize = 4096;
 
-// The ids of regions with rules of their own (document 003).
-pub const INPUT_REGISTER: u32 = 2;
-
+// The ids of regions that are read and written in ways of their own (document 003).
 pub const SCALER: u32 = 6;
 
 pub const VDC: u32 = 7;

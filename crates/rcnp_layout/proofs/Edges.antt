@@ -3,6 +3,7 @@
 use Prim.Native.Nat.{ℕ}
 use mathlib.Core.Path.{refl}
 use mathlib.Core.List.{List, [], _∷_, _++_, map}
+use lib.ListN.{replicate}
 use Rattle.event.specs.declared.Row.{Row}
 use Rattle.event.specs.Outcome.{done, refused}
 use Rattle.event.specs.Rows.{row}
@@ -23,7 +24,7 @@ no ws w n k = bare (ws ++ (0xf001 ∷ w ∷ [])) n k
 -- 1: 2 to 4,096 words, before all else. (The largest events: crate rcnp_sizes.)
 abbrev events : List (Vector Row)
 events =
-    bare [] 1 0 ∷ bare (0xf001 ∷ []) 1 0 ∷ bare (0 ∷ []) 1 0 ∷ ok [] 0x0fff [] ∷ []
+    bare [] 1 0 ∷ bare (0xf001 ∷ []) 1 0 ∷ bare (0 ∷ []) 1 0 ∷ ok [] 0x0fff [] ∷ bare (replicate 4096 0) 6 0 ∷ bare (replicate 4097 0) 1 0 ∷ []
 
 -- 6 at a header: ids 0, 1, 5, 8 and 9, before 5 and 7; a word after region 15, be it another region 15; the word count where none came
 abbrev ids : List (Vector Row)

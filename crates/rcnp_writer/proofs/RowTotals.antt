@@ -40,6 +40,20 @@ one-more (r ∷ rs) zero h = omega (arith, total-append (rowWords r) [])
 one-more (r ∷ rs) (suc i) h =
     omega (arith, total-append (rowWords r) (each rowWords (take (suc i) rs)), total-append (rowWords r) (each rowWords (take i rs)), one-more rs i (omega arith))
 
+-- sums that are the same modulo 65,536
+wrapped : (a : ℕ) → a % 2 ^ 64 % 65536 ≡ a % 65536
+wrapped a = omega arith
+
+added : (a b c : ℕ) → a % 65536 ≡ b % 65536 → (a + c) % 65536 ≡ (b + c) % 65536
+added a b c e = omega arith
+
+-- a word more, in 64 bits or in 32
+pub wrapped-64 : (sum w : ℕ) {next : ℕ} → next ≡ (sum + w) % 2 ^ 64 → next % 65536 ≡ (sum + w) % 65536
+wrapped-64 sum w e = rw e (wrapped (sum + w))
+
+pub wrapped-32 : (sum w : ℕ) {part next : ℕ} → part ≡ w % 2 ^ 32 → next ≡ (sum + part) % 2 ^ 32 → next % 65536 ≡ (sum + w) % 65536
+wrapped-32 sum w e p = rw (p, e) (omega arith)
+
 -- no row, and one row of one word more
 pub summed-none : (rs : List Row) (i : ℕ) → Summed rs i (i + 0) 0
 summed-none rs i =
@@ -48,19 +62,15 @@ summed-none rs i =
     record { sums = rw (e, z) }
 
 pub summed-one : {rs : List Row} {i sum next w : ℕ} (k : ℕ) {r : Row} → Summed rs i (i + k) sum → i + k < length rs → r ≡ getD rs (i + k) noRow → rowWords r ≡ w ∷ []
-    → next ≡ (sum + w) % 2 ^ 64 → Summed rs i (i + (k + 1)) next
+    → next % 65536 ≡ (sum + w) % 65536 → Summed rs i (i + (k + 1)) next
 summed-one {rs} {i} {sum} {next} {w} k {r} s h e q p =
     let n : i + (k + 1) ≡ suc (i + k) = omega arith in
     let t : total (rowWords (getD rs (i + k) noRow)) ≡ w = rw (← e, q) (omega arith) in
     let m : totalTo rs (suc (i + k)) ≡ totalTo rs (i + k) + w = one-more rs (i + k) h ∙ ap (totalTo rs (i + k) +_) t in
-    record { sums = rw (n, m, p) (omega (arith, s .sums)) }
-
--- sums that are the same modulo 65,536
-wrapped : (a : ℕ) → a % 2 ^ 64 % 65536 ≡ a % 65536
-wrapped a = omega arith
-
-added : (a b c : ℕ) → a % 65536 ≡ b % 65536 → (a + c) % 65536 ≡ (b + c) % 65536
-added a b c e = omega arith
+    let next-sum : (totalTo rs i + next) % 65536 ≡ (totalTo rs i + (sum + w)) % 65536 = omega arith in
+    let more : (totalTo rs i + sum + w) % 65536 ≡ (totalTo rs (i + k) + w) % 65536 = added (totalTo rs i + sum) (totalTo rs (i + k)) w (s .sums) in
+    let assoc : totalTo rs i + (sum + w) ≡ totalTo rs i + sum + w = omega arith in
+    record { sums = rw (n, m) (next-sum ∙ rw assoc more) }
 
 -- a region's own row and those that follow it, as the loop takes them
 pub sum-next : (rs : List Row) (i sum n : ℕ) {next mid t run : ℕ} {r : Row} → i < length rs → sum % 65536 ≡ totalTo rs i % 65536 → r ≡ getD rs i noRow → t ≡ total (rowWords r)

@@ -6,6 +6,7 @@ use crate::word::vdc_word;
 use event::Row;
 use event::kind;
 use event::rows::row_at;
+use std::num::wrapping_add_u32;
 use std::num::wrapping_add_usize;
 ghost use Prim.Native.Nat.{_+_, _%_};
 ghost use mathlib.Core.Path.{_≡_};
@@ -44,19 +45,19 @@ fn sum_words(rows: &[u32], first: usize, n: usize) -> usize
     sum
 }
 
-// That of n words of the chamber.
+// That of n words of the chamber, modulo 2^32: so more of them are summed at once.
 fn sum_chamber(rows: &[u32], first: usize, n: usize) -> usize
     requires { ⌜ RunAt ofChamber (rowsIn (now rows)) first n ⌝ }
     ensures { λ r. ⌜ Summed (rowsIn (now (rows .entry))) first (first + n) r ⌝ }
 {
-    let mut sum: usize = 0;
+    let mut sum: u32 = 0;
     let mut k: usize = 0;
     while k < n {
-        let row = row_there(rows, first + k);
-        sum = wrapping_add_usize(sum, vdc_word(row));
+        let word = vdc_word(row_there(rows, first + k));
+        sum = wrapping_add_u32(sum, (word % 0x1_0000_0000) as u32);
         k += 1;
     }
-    sum
+    sum as usize
 }
 
 // That of the rows of one word each that follow a region's own row, from row `first` on.

@@ -1,20 +1,20 @@
 -- `sum::sum_chamber` meets its contract. Assumes nothing.
-use Prim.Native.Nat.{ℕ, _+_, _-_, _/_, _≤_, _<_}
+use Prim.Native.Nat.{ℕ, _+_, _-_, _^_, _≤_, _<_}
 use native.Mathlib.Omega.{arith}
-use mathlib.Core.Path.{_≡_, ap, sym, _∙_}
+use mathlib.Core.Path.{_≡_, refl, ap, sym, _∙_}
 use mathlib.Core.List.{List, [], _∷_}
 use lib.ListN.{length}
 use Rattle.event.specs.Writing.{rowsIn}
 use Rattle.event.proofs.RowsIn.{rows-count}
 use Rattle.rcnp_writer.specs.Parts.{Summed}
 use Rattle.rcnp_writer.proofs.Filled.{chamber-alone}
-use Rattle.rcnp_writer.proofs.RowTotals.{summed-none, summed-one}
+use Rattle.rcnp_writer.proofs.RowTotals.{wrapped-32, summed-none, summed-one}
 use borrow.Author.Needs.{needs}
 use Rattle.rcnp_writer.proofs.sum.sum_chamber.Statement.{statement}
 use Rattle.rcnp_writer.proofs.sum.sum_chamber.Tie as tie
 
 abbrev Inv-loop : tie.InvT-loop
-Inv-loop rows first n sum₀ k₀ sum k = Summed (rowsIn rows) first (first + k) sum × (k ≤ n)
+Inv-loop rows first n sum₀ k₀ sum k = Summed (rowsIn rows) first (first + k) sum × (k ≤ n) × (sum < 2 ^ 32)
 
 abbrev μ-loop : tie.MeasureT-loop
 μ-loop rows first n sum₀ k₀ sum k = n - k
@@ -34,7 +34,7 @@ module _ (t : tie.In-loop Inv-loop μ-loop) where
   there = omega (arith, t .loop-test .taken, entry .pre .inside)
 
 -- The row was read.
-abbrev read : tie.After-wrapping-add-usize Inv-loop μ-loop → tie.After-row-there Inv-loop μ-loop
+abbrev read : tie.After-wrapping-add-u32 Inv-loop μ-loop → tie.After-row-there Inv-loop μ-loop
 read c = c .before .before
 
 loop-again : tie.Need-loop-again Inv-loop μ-loop
@@ -43,7 +43,12 @@ loop-again c =
     let l = turn t .loop in
     let such = entry t .pre .each (l .k) (t .loop-test .taken) in
     let e = read c .row-there .ensures in
-    (summed-one (l .k) (l .inv .0) (there t) e (chamber-alone (read c .row-there .result) (rw (← e) at such) ∙ ap (_∷ []) (sym (c .before .vdc-word .ensures))) (c .wrapping-add-usize .ensures), omega (arith, t .loop-test .taken))
+    let w = c .before .vdc-word .result in (
+      summed-one (l .k) (l .inv .0) (there t) e (chamber-alone (read c .row-there .result) (rw (← e) at such) ∙ ap (_∷ []) (sym (c .before .vdc-word .ensures)))
+          (wrapped-32 (l .sum) w refl (c .wrapping-add-u32 .ensures)),
+      omega (arith, t .loop-test .taken),
+      omega (arith, c .wrapping-add-u32 .ensures),
+    )
 
 -- All rows were.
 same : {n k : ℕ} → k ≤ n → n ≤ k → k ≡ n
@@ -61,12 +66,14 @@ sum-chamber-spec =
     (tie.spec
     Inv-loop
     μ-loop
-    (λ c. (summed-none (rowsIn (c .before .args .rows .now)) (c .before .args .first), omega arith))
+    (λ c. (summed-none (rowsIn (c .before .args .rows .now)) (c .before .args .first), omega arith, omega arith))
     (λ c. omega (arith, there c, rows-count (elements c)))
     (λ c κs. there c)
     (λ c κs. search needs)
+    (λ c. search needs)
     (λ c κs. search needs)
     (λ c. omega (arith, read c .before .loop-test .taken))
     (λ c. omega (arith, read c .before .loop-test .taken))
     loop-again
+    (λ c. omega (arith, c .before .loop .inv .2))
     returns)

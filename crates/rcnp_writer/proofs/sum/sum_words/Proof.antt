@@ -8,7 +8,7 @@ use Rattle.event.specs.Writing.{rowsIn}
 use Rattle.event.proofs.RowsIn.{rows-count}
 use Rattle.rcnp_writer.specs.Parts.{Summed}
 use Rattle.rcnp_writer.proofs.Filled.{word-alone}
-use Rattle.rcnp_writer.proofs.RowTotals.{summed-none, summed-one}
+use Rattle.rcnp_writer.proofs.RowTotals.{wrapped-64, summed-none, summed-one}
 use borrow.Author.Needs.{needs}
 use Rattle.rcnp_writer.proofs.sum.sum_words.Statement.{statement}
 use Rattle.rcnp_writer.proofs.sum.sum_words.Tie as tie
@@ -43,7 +43,10 @@ loop-again c =
     let l = turn t .loop in
     let such = entry t .pre .each (l .k) (t .loop-test .taken) in
     let e = read c .row-there .ensures in
-    (summed-one (l .k) (l .inv .0) (there t) e (word-alone (read c .row-there .result) (rw (← e) at such)) (c .wrapping-add-usize .ensures), omega (arith, t .loop-test .taken))
+    let w = read c .row-there .result .datum in (
+      summed-one (l .k) (l .inv .0) (there t) e (word-alone (read c .row-there .result) (rw (← e) at such)) (wrapped-64 (l .sum) w (c .wrapping-add-usize .ensures)),
+      omega (arith, t .loop-test .taken),
+    )
 
 -- All rows were.
 same : {n k : ℕ} → k ≤ n → n ≤ k → k ≡ n
