@@ -24,19 +24,24 @@ Example =
     listing defaultOrder (good ++ text "S 0001\n")
     ≡ goodListed ++ text "event 00000002 refused 00000001 place 00000000\n" ++ text "end events 00000001 refused 00000001\n"
 
--- an empty line, an upper-case digit, a line of no words, and spoken case 10 as a last line without its line feed
+-- an empty line, an upper-case digit, a line of no words, the smallest event of R and the same with another sum, and spoken case 10 as a last line without its line feed
 abbrev pub Counted : Type 0
 Counted =
-    listing defaultOrder (good ++ text "\n" ++ text "S 000A\n" ++ text "S\n" ++ text "F 00000200 00f717ff 01f738e1 02f70563 32000001 0000002a 34000000")
+    listing defaultOrder (good ++ text "\n" ++ text "S 000A\n" ++ text "S\n" ++ text "R f001 0fff\n" ++ text "R f001 0ffe\n"
+    ++ text "F 00000200 00f717ff 01f738e1 02f70563 32000001 0000002a 34000000")
     ≡ goodListed
     ++ text "event 00000002 refused 0000001e place 00000000\n"
     ++ text "event 00000003 refused 0000001e place 00000000\n"
     ++ text "event 00000004 refused 00000001 place 00000000\n"
-    ++ text "event 00000005 rows 00000003\n"
+    ++ text "event 00000005 rows 00000002\n"
+    ++ text "00000020 0000000f 00000001 00000000\n"
+    ++ text "00000021 00000000 00000000 00000fff\n"
+    ++ text "event 00000006 refused 0000000d place 00000001\n"
+    ++ text "event 00000007 rows 00000003\n"
     ++ text "00000010 000017ff 000038e1 00000563\n"
     ++ text "00000011 00000006 00000001 00000000\n"
     ++ text "00000012 00000006 00000000 0000002a\n"
-    ++ text "end events 00000002 refused 00000003\n"
+    ++ text "end events 00000003 refused 00000004\n"
 
 -- the most lines and no more, one more, and a line too long before another
 abbrev pub Stops : Type 0
