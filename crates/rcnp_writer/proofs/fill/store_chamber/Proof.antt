@@ -66,8 +66,9 @@ loop-again c =
     let t = going c in
     let l = turn t in
     let r = read c .row-there .result in
+    let e = read c .row-there .ensures in
     let such = entry l .pre .0 .each (l .loop .k) (below t .0) in (
-      filled-one (l .loop .k) (l .loop .inv .0) (there t) (read c .row-there .ensures) (chamber-alone r (rw (← read c .row-there .ensures) at such) ∙ ap (_∷ []) (sym (stored c .before .vdc-word .ensures)))
+      filled-one (l .loop .k) (l .loop .inv .0) (there t) e (chamber-alone r (rw (← e) at such) ∙ ap (_∷ []) (sym (stored c .before .vdc-word .ensures)))
           (stored c .put-word .ensures),
       omega (arith, t .loop-test .taken),
     )

@@ -65,7 +65,8 @@ loop-again c =
     let l = turn t in
     let r = read c .row-there .result in
     let such = entry l .pre .0 .each (l .loop .k) (below t .0) in
-    (filled-one (l .loop .k) (l .loop .inv .0) (there t) (read c .row-there .ensures) (word-alone r (rw (← read c .row-there .ensures) at such)) (stored c .put-word .ensures), omega (arith, t .loop-test .taken))
+    let e = read c .row-there .ensures in
+    (filled-one (l .loop .k) (l .loop .inv .0) (there t) e (word-alone r (rw (← e) at such)) (stored c .put-word .ensures), omega (arith, t .loop-test .taken))
 
 returns : tie.Need-returns Inv-loop μ-loop
 returns c =
