@@ -71,9 +71,6 @@ module _ {St A : Type 0} (width : ℕ) (stands : St → Row → Bool) (fields : 
       taken : (first + k < length rs) × (item state (first + k) (drop (first + k) rs) ≡ ok (fields r) (first + k + 1) (drop (first + k + 1) rs))
       taken = row-taken (stands state) fields (print state) (checks state) (none state) (numbered state) rs (first + k) e q
 
-      pub counted-there : first + k < length rs
-      counted-there = taken .0
-
       pub counted-next : {Holds′ : St → Type 0} {at′ : ℕ} {b′ : List ℕ} → Holds′ (next state (fields r)) → at′ ≡ at + length (f (fields r)) → length (f (fields r)) ≤ 4
           → b′ ≡ storeWords width b at (f (fields r)) → length b′ ≡ length b
           → CountedTo width item next f Holds′ rs n st₀ first at₀ b₀ (k + 1) at′ b′

@@ -8,7 +8,7 @@ use mathlib.Core.Bool.{true, false}
 use mathlib.Core.List.{List, [], _∷_, _++_, append-nil}
 use lib.ListN.{length, drop, length-append}
 use Rattle.event.specs.declared.Part.the-variants.{Done, Refused}
-use Rattle.event.specs.Parser.{ok, refuse, alone, several, each}
+use Rattle.event.specs.Parser.{refuse, alone, several, each}
 use Rattle.event.specs.Rows.{storeRow}
 use Rattle.event.specs.Scanning.{storeRows, Whole, PartOf}
 use Rattle.event.proofs.Elements.{each-append}

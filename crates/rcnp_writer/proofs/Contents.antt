@@ -17,7 +17,7 @@ use Rattle.event.specs.Writing.{ofKind, noRow}
 use Rattle.event.specs.Scanning.{storeWords}
 use Rattle.event.proofs.Codes.{T-true}
 use Rattle.event.proofs.Elements.{both}
-use Rattle.event.proofs.CountedRows.{CountedTo, counted-begin, counted-done, counted-refused, counted-there, counted-next}
+use Rattle.event.proofs.CountedRows.{CountedTo, counted-begin, counted-done, counted-refused, counted-next}
 use Rattle.event.proofs.WordStores.{past-the-end}
 use Rattle.rcnp_layout.specs.Layout.{scalerWords, wordRow, scalerRow, vdcRow, nextIndex, wordChecks, scalerChecks, vdcChecks, begins}
 use Rattle.rcnp_layout.specs.Writing.{word, scalerAt, vdcOf, vdcStands, vdcValue}
@@ -44,10 +44,6 @@ module _ {rs : List Row} {n first k at : ℕ} (h : Words rs n first k at) where
     unfolding datumFault
     word-refused = counted-refused 16 (λ u. ofKind 33) (λ r. r .datum) (λ u. wordRow) (λ u. wordChecks 22) (λ u. refl) (λ u w. (tt, tt)) h below e []
 
-    pub word-there : 0 ≡ datumFault 33 0 65536 r → first + k < length rs
-    unfolding datumFault
-    word-there = counted-there 16 (λ u. ofKind 33) (λ r. r .datum) (λ u. wordRow) (λ u. wordChecks 22) (λ u. refl) (λ u w. (tt, tt)) h below e
-
     pub word-next : {at′ : ℕ} → 0 ≡ datumFault 33 0 65536 r → at′ ≡ at + 1 → Words rs n first (k + 1) at′
     unfolding datumFault
     word-next f p = counted-next 16 (λ u. ofKind 33) (λ r. r .datum) (λ u. wordRow) (λ u. wordChecks 22) (λ u. refl) (λ u w. (tt, tt)) h below e f tt p (omega arith)
@@ -68,10 +64,6 @@ module _ {rs : List Row} {n first k at : ℕ} (h : Scalers rs n first k at) wher
     pub scaler-refused : {m : ℕ} {part : Part} → m ≡ datumFault 34 k 0x1000000 r → (m ≡ 0 → ⊥) → part ≡ Refused m (first + k) → ScalersIn part
     unfolding datumFault
     scaler-refused f = counted-refused 16 (λ i. ofKind 34) (λ r. r .datum) scalerRow (λ i. scalerChecks 22) (λ i. refl) (λ i v. (tt, tt)) h below e [] (rw (h .reached .holds .1) f)
-
-    pub scaler-there : 0 ≡ datumFault 34 k 0x1000000 r → first + k < length rs
-    unfolding datumFault
-    scaler-there f = counted-there 16 (λ i. ofKind 34) (λ r. r .datum) scalerRow (λ i. scalerChecks 22) (λ i. refl) (λ i v. (tt, tt)) h below e (rw (h .reached .holds .1) f)
 
     pub scaler-next : {at′ : ℕ} → 0 ≡ datumFault 34 k 0x1000000 r → at′ ≡ at + 2 → Scalers rs n first (k + 1) at′
     unfolding datumFault
@@ -97,10 +89,6 @@ module _ {rs : List Row} {n first k at : ℕ} {begun : Bool} (h : Chamber rs n f
     pub vdc-refused : {m : ℕ} {part : Part} → m ≡ vdcFault begun r → (m ≡ 0 → ⊥) → part ≡ Refused m (first + k) → ChamberIn part
     unfolding vdcFault
     vdc-refused f = counted-refused 16 vdcStands vdcOf (λ s. vdcRow) (vdcChecks 22) no-zeros (λ s x. (tt, tt)) h below e [] (rw (h .reached .holds .1) f)
-
-    pub vdc-there : 0 ≡ vdcFault begun r → first + k < length rs
-    unfolding vdcFault
-    vdc-there f = counted-there 16 vdcStands vdcOf (λ s. vdcRow) (vdcChecks 22) no-zeros (λ s x. (tt, tt)) h below e (rw (h .reached .holds .1) f)
 
     pub vdc-next : {at′ : ℕ} → 0 ≡ vdcFault begun r → at′ ≡ at + 1 → Chamber rs n first true (k + 1) at′
     unfolding vdcFault

@@ -1,5 +1,5 @@
 -- `run::row_there` meets its contract. Assumes nothing.
-use Prim.Native.Nat.{ℕ, _/_, _<_}
+use Prim.Native.Nat.{_/_, _<_}
 use native.Mathlib.Omega.{arith}
 use lib.ListN.{length}
 use Rattle.event.proofs.RowsIn.{rows-count, row-there}
