@@ -1,6 +1,6 @@
 //! The hexadecimal lines and the listing (01, "The hexadecimal lines").
 
-use crate::base::{refuse, Answer, Order, Refusal, Row};
+use crate::base::{refuse, Answer, Order, Refusal};
 use crate::dialects::{Dialect, Words, DIALECTS};
 
 /// The most characters (bytes) before the line feed.
@@ -115,7 +115,7 @@ fn list_line(
             push_hex(output, rows.len() as u32, 8);
             output.push(b'\n');
             for row in rows {
-                push_row(output, row);
+                push_numbers(output, row);
             }
         }
         Err(refusal) => {
@@ -131,12 +131,13 @@ fn list_line(
     answer
 }
 
-fn push_row(output: &mut Vec<u8>, row: &Row) {
-    for (index, &field) in row.iter().enumerate() {
+/// A line of numbers, a space between each two.
+pub fn push_numbers(output: &mut Vec<u8>, numbers: &[u32]) {
+    for (index, &number) in numbers.iter().enumerate() {
         if index > 0 {
             output.push(b' ');
         }
-        push_hex(output, field, 8);
+        push_hex(output, number, 8);
     }
     output.push(b'\n');
 }

@@ -8,7 +8,7 @@ use std::process::ExitCode;
 
 const USAGE: &str = "usage: second list [crossed|rising]
        second answer
-       second stored lines|vectors
+       second stored lines|vectors|pads
        second hosts
        second met lines|vectors
        second compare --seed N --events N [--list-events PATH] [--run-vectors PATH] [--host-calls PATH]
@@ -24,6 +24,7 @@ fn main() -> ExitCode {
         ["answer"] => answer(),
         ["stored", "lines"] => put_out(&stored::lines()),
         ["stored", "vectors"] => put_out(&stored::vectors()),
+        ["stored", "pads"] => put_out(&stored::pads()),
         ["hosts"] => put_out(&host::calls_text()),
         ["met", "lines"] => put_out(Tally::of_lines(&stored::lines()).report().as_bytes()),
         ["met", "vectors"] => {

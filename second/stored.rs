@@ -1,9 +1,10 @@
-//! `stored lines` and `stored vectors`: the stored inputs, made with a fixed seed.
+//! `stored lines` and `stored vectors`: the stored inputs, made with a fixed seed. `stored pads`: what
+//! list_pads prints, which has no input.
 
 use crate::base::Order;
-use crate::dialects::{Dialect, Words, DIALECTS};
+use crate::dialects::{s800, Dialect, Words, DIALECTS};
 use crate::generate::{cases, damage_line, line_edges, probes};
-use crate::lines::{line_of, LONGEST_LINE};
+use crate::lines::{line_of, push_numbers, LONGEST_LINE};
 use crate::rng::Rng;
 use crate::vectors::Vector;
 
@@ -88,6 +89,17 @@ pub fn vectors() -> Vec<u8> {
             if vector.elements.len() < 400 {
                 text.extend(vector.text());
             }
+        }
+    }
+    text
+}
+
+/// Connectors 0 to 3, within each channels 0 to 63: a line of channel, connector and pad.
+pub fn pads() -> Vec<u8> {
+    let mut text = Vec::new();
+    for connector in 0..4 {
+        for channel in 0..64 {
+            push_numbers(&mut text, &[channel, connector, s800::pad(channel, connector)]);
         }
     }
     text

@@ -1,4 +1,4 @@
-//! The stored inputs stay in their limits and meet every refusal that they can.
+//! The stored inputs stay in their limits and meet every refusal that they can; the pads.
 
 use super::ensure;
 use super::lines::LISTED;
@@ -12,12 +12,20 @@ pub fn run() -> Result<(), String> {
     ensure(largest < 1_000_000, "stored inputs are below 1,000,000 bytes")?;
     ensure_met("lines", &Tally::of_lines(&lines), &[Source::Line])?;
     ensure_met("vectors", &Tally::of_vectors(&vectors)?, &[Source::Reading, Source::Writing])?;
+    check_pads()?;
     check_thinned()
 }
 
 fn ensure_met(what: &str, met: &Tally, sources: &[Source]) -> Result<(), String> {
     let faults = [met.missing(sources), met.unwanted()].concat();
     ensure(faults.is_empty(), &format!("the stored {what}: {}", faults.join("; ")))
+}
+
+/// The pads of connector 0 come first, then those of connector 1, ..: so they count up.
+fn check_pads() -> Result<(), String> {
+    let line = |pad: usize| format!("{:08x} {:08x} {pad:08x}\n", pad % 64, pad / 64);
+    let lines: String = (0..256).map(line).collect();
+    ensure(stored::pads() == lines.as_bytes(), "the pads count up by channel and connector")
 }
 
 /// All that fits is kept, else every second, every third, ..

@@ -14,6 +14,7 @@ mod write;
 
 use super::{Dialect, Functions, Native, Rows, Special, Wanted};
 use crate::generate::damage_rows::FIELD_LIMITS;
+pub(crate) use read::pad;
 
 pub static DIALECT: Dialect = Dialect {
     letter: 'S',

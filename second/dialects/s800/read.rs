@@ -195,7 +195,7 @@ impl<'a> Packet<'a> {
             if data & 0xf000 != 0 {
                 return self.refuse(10, index + 1);
             }
-            let pad = (head & 0x3f) + 64 * (data >> 10);
+            let pad = pad(head & 0x3f, data >> 10);
             rows.push([kind::SAMPLE, head >> 6 & 0x1ff, pad, data & 0x3ff]);
         }
         self.inner_head(anode, 4, tags::CRDC_ANODE)?;
@@ -227,6 +227,11 @@ fn energies(first_row_channel: u32) -> ChannelLayout {
 fn adc_energies(first_row_channel: u32) -> ChannelLayout {
     let allowed_channels = 0xff;
     ChannelLayout { kind: kind::ENERGY, number_bits: 13, allowed_channels, first_row_channel }
+}
+
+/// The pad of a sample, of a channel from 0 to 63 and a connector from 0 to 3.
+pub fn pad(channel: u32, connector: u32) -> u32 {
+    channel + 64 * connector
 }
 
 /// The lengths of each tag; for a hodoscope those of any of its ids.
