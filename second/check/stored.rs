@@ -1,4 +1,4 @@
-//! The stored inputs stay in their limits and meet every refusal that they can; the pads.
+//! The stored inputs stay in their limits and meet every refusal that they can; the pads count up.
 
 use super::ensure;
 use super::lines::LISTED;

@@ -7,10 +7,10 @@ first : pairText 0 0 ≡ text "00000000 00000000 00000000\n"
 unfolding pairText hexOf field character
 first = refl
 
-last : pairText 3 63 ≡ text "0000003f 00000003 000000ff\n"
+last : pairText 63 3 ≡ text "0000003f 00000003 000000ff\n"
 unfolding pairText hexOf field character
 last = refl
 
-of-case-7 : pairText 2 18 ≡ text "00000012 00000002 00000092\n"
+of-case-7 : pairText 18 2 ≡ text "00000012 00000002 00000092\n"
 unfolding pairText hexOf field character
 of-case-7 = refl

@@ -11,9 +11,9 @@ use Rattle.hex_line.specs.Text.{Placed}
 use Rattle.hex_line.proofs.TextLaws.{hex-length, field-length, placed-none, placed-then}
 use Rattle.list_pads.specs.Pads.{textsBelow, pairText, connectorText, padsText}
 
-pub pair-length : (connector channel : ℕ) → length (pairText connector channel) ≡ 27
+pub pair-length : (channel connector : ℕ) → length (pairText channel connector) ≡ 27
 unfolding pairText
-pair-length connector channel = simp (length-append, hex-length, field-length) refl
+pair-length channel connector = simp (length-append, hex-length, field-length) refl
 
 pub texts-length : {m : ℕ} (n : ℕ) (f : ℕ → List ℕ) → ((k : ℕ) → length (f k) ≡ m) → length (textsBelow n f) ≡ n * m
 unfolding textsBelow
@@ -22,7 +22,7 @@ texts-length {m} (suc n) f l = length-append (textsBelow n f) (f n) ∙ rw (text
 
 pub connector-length : (connector : ℕ) → length (connectorText connector) ≡ 1728
 unfolding connectorText
-connector-length connector = texts-length 64 (pairText connector) (pair-length connector)
+connector-length connector = texts-length 64 (λ channel. pairText channel connector) (λ channel. pair-length channel connector)
 
 pub pads-length : length padsText ≡ 6912
 unfolding padsText

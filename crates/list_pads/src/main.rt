@@ -1,5 +1,6 @@
 // Lists the pad of each pair of channel and connector (document 02, #102): connectors 0 to 3, within each channels 0 to 63, a line
-// `CHANNEL CONNECTOR PAD` each, in hexadecimal. The expected output comes from the independent second reader (`second/`).
+// `CHANNEL CONNECTOR PAD` each, in hexadecimal. The expected output comes from the independent second reader (`second/`). A write that fails
+// ends the program: fewer than 256 lines are not the whole listing.
 use hex_line::put_field;
 use hex_line::put_number;
 use hex_line::put_text;
@@ -18,14 +19,14 @@ const CONNECTORS: u16 = 4;
 const LISTING: usize = 6912;
 
 // Puts the line of a pair at `at`, and answers where it ends.
-fn put_pair(text: &mut [u8], at: usize, connector: u16, channel: u16) -> usize
-    requires { ⌜ at + length (pairText connector channel) ≤ length (now text) ⌝ }
-    ensures { λ r. ⌜ Placed (now (text .entry)) at (pairText connector channel) r (now (text .exit)) ⌝ }
+fn put_pair(text: &mut [u8], at: usize, channel: u16, connector: u16) -> usize
+    requires { ⌜ at + length (pairText channel connector) ≤ length (now text) ⌝ }
+    ensures { λ r. ⌜ Placed (now (text .entry)) at (pairText channel connector) r (now (text .exit)) ⌝ }
 {
-    let first = put_number(text, at, channel as u64);
-    let second = put_field(text, first, b" ", connector as u64);
-    let third = put_field(text, second, b" ", s800::pad(channel, connector) as u64);
-    put_text(text, third, b"\n")
+    let connector_at = put_number(text, at, channel as u64);
+    let pad_at = put_field(text, connector_at, b" ", connector as u64);
+    let end = put_field(text, pad_at, b" ", s800::pad(channel, connector) as u64);
+    put_text(text, end, b"\n")
 }
 
 // Puts the lines of a connector's channels at `at`.
@@ -36,7 +37,7 @@ fn put_connector(text: &mut [u8], at: usize, connector: u16) -> usize
     let mut end = at;
     let mut channel = 0;
     while channel < CHANNELS {
-        end = put_pair(text, end, connector, channel);
+        end = put_pair(text, end, channel, connector);
         channel += 1;
     }
     end
