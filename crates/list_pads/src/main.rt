@@ -1,6 +1,6 @@
 // Lists the pad of each pair of channel and connector (document 02, #102): connectors 0 to 3, within each channels 0 to 63, a line
 // `CHANNEL CONNECTOR PAD` each, in hexadecimal. The expected output comes from the independent second reader (`second/`). A write that fails
-// ends the program: fewer than 256 lines are not the whole listing.
+// ends the program, and its exit status does not tell: fewer than 256 lines are not the whole listing.
 use hex_line::put_field;
 use hex_line::put_number;
 use hex_line::put_text;
