@@ -10,7 +10,8 @@ use crate::vectors::Vector;
 
 const SEED: u64 = 5803;
 const RANDOM_LINES: usize = 600;
-/// Where the edges of all dialects have more bytes, some lines, or writings, are left out.
+/// Where the edges of all dialects have more bytes, some lines, or writings of changed rows, are
+/// left out.
 const LINE_EDGE_BYTES: usize = 600_000;
 const VECTOR_EDGE_BYTES: usize = 930_000;
 /// Random vectors follow the edges up to so many bytes.
@@ -24,7 +25,7 @@ pub fn lines() -> Vec<u8> {
     put(&line_of(DIALECTS[0], &DIALECTS[0].edges().smallest));
     put(b"S 0001");
     let events = thinned(event_lines(), LINE_EDGE_BYTES);
-    for line in events.into_iter().chain(fault_lines()).chain(line_edges::all()) {
+    for line in events.into_iter().chain(answered_lines()).chain(line_edges::all()) {
         put(&line);
     }
     let mut left = RANDOM_LINES;
@@ -42,7 +43,7 @@ pub fn lines() -> Vec<u8> {
     text
 }
 
-/// The lines of all edges but those that break two rules at once.
+/// The lines of all edges but those whose answers are given.
 fn event_lines() -> Vec<Vec<u8>> {
     let mut lines = Vec::new();
     for dialect in DIALECTS {
@@ -53,10 +54,10 @@ fn event_lines() -> Vec<Vec<u8>> {
     lines
 }
 
-/// The lines of the events that break two rules at once.
-fn fault_lines() -> Vec<Vec<u8>> {
+/// The lines of the events whose answers are given.
+fn answered_lines() -> Vec<Vec<u8>> {
     let of_dialect = |dialect: &'static Dialect| {
-        let events = dialect.edges().two_faults.into_iter();
+        let events = dialect.edges().answered.into_iter();
         events.map(move |(_, words)| line_of(dialect, &words))
     };
     DIALECTS.iter().flat_map(|dialect| of_dialect(dialect)).collect()
@@ -64,13 +65,14 @@ fn fault_lines() -> Vec<Vec<u8>> {
 
 /// Every edge, as lines.
 pub fn edge_lines() -> Vec<Vec<u8>> {
-    [event_lines(), fault_lines(), line_edges::all()].concat()
+    [event_lines(), answered_lines(), line_edges::all()].concat()
 }
 
 /// Every edge, as calls.
 pub fn edge_calls() -> Vec<Vector> {
     let mut rng = Rng::new(SEED);
-    let edges = edge_writings(&mut rng).into_iter().chain(edge_readings(&mut rng));
+    let writings = [changed_writings(&mut rng), list_writings(&mut rng)];
+    let edges = writings.into_iter().flatten().chain(edge_readings(&mut rng));
     large_calls().into_iter().chain(edges).collect()
 }
 
@@ -79,10 +81,12 @@ pub fn vectors() -> Vec<u8> {
     let mut rng = Rng::new(SEED);
     let texts = |vectors: Vec<Vector>| vectors.iter().map(Vector::text).collect::<Vec<_>>();
     let mut text = texts(large_calls()).concat();
-    let writings = texts(edge_writings(&mut rng));
+    let changed = texts(changed_writings(&mut rng));
+    let lists = texts(list_writings(&mut rng)).concat();
     let readings = texts(edge_readings(&mut rng)).concat();
-    let left = VECTOR_EDGE_BYTES.saturating_sub(text.len() + readings.len());
-    text.extend(thinned(writings, left).concat());
+    let left = VECTOR_EDGE_BYTES.saturating_sub(text.len() + lists.len() + readings.len());
+    text.extend(thinned(changed, left).concat());
+    text.extend(lists);
     text.extend(readings);
     while text.len() < VECTOR_BYTES {
         for vector in cases::random(&mut rng).vectors {
@@ -111,11 +115,21 @@ fn large_calls() -> Vec<Vector> {
     readings.chain(writings).collect()
 }
 
-/// Writings of the rows of small events, changed in one place, in both orders by turns.
-fn edge_writings(rng: &mut Rng) -> Vec<Vector> {
+/// Writings of the rows of small events, changed in one place.
+fn changed_writings(rng: &mut Rng) -> Vec<Vector> {
+    writings(rng, probes::changed_rows)
+}
+
+/// Writings of lists at edges that concern several rows.
+fn list_writings(rng: &mut Rng) -> Vec<Vector> {
+    writings(rng, |dialect| (dialect.rows.lists)())
+}
+
+/// Writings of the lists of each dialect, in both orders by turns.
+fn writings(rng: &mut Rng, lists_of: fn(&Dialect) -> Vec<Vec<u32>>) -> Vec<Vector> {
     let mut vectors = Vec::new();
     for dialect in DIALECTS {
-        for elements in probes::row_lists(dialect) {
+        for elements in lists_of(dialect) {
             let room = rng.within(40, 60);
             let order = [Order::Rising, Order::Crossed][vectors.len() % 2];
             vectors.push(Vector::writing(dialect, order, room, elements));
@@ -124,19 +138,19 @@ fn edge_writings(rng: &mut Rng) -> Vec<Vector> {
     vectors
 }
 
-/// Readings of some small edges, some flips, and all events that break two rules at once.
+/// Readings of some small edges, some flips, and all events whose answers are given.
 fn edge_readings(rng: &mut Rng) -> Vec<Vector> {
-    let (mut layouts, mut flips, mut two_faults) = (vec![], vec![], vec![]);
+    let (mut layouts, mut flips, mut answered) = (vec![], vec![], vec![]);
     for dialect in DIALECTS {
         let edges = dialect.edges();
         let given = |words: Vec<u32>| Words { dialect, words };
         let small = edges.layouts.into_iter().filter(|words| words.len() < 100);
         layouts.extend(small.map(given));
         flips.extend(probes::flips(dialect).into_iter().map(given));
-        two_faults.extend(edges.two_faults.into_iter().map(|(_, words)| given(words)));
+        answered.extend(edges.answered.into_iter().map(|(_, words)| given(words)));
     }
     let some = layouts.into_iter().step_by(3).chain(flips.into_iter().step_by(11));
-    some.chain(two_faults).map(|words| cases::reading(rng, words)).collect()
+    some.chain(answered).map(|words| cases::reading(rng, words)).collect()
 }
 
 /// All of the texts, or as many of them, evenly taken, as have no more bytes together. (What is

@@ -6,7 +6,7 @@ mod made;
 mod stored;
 
 use crate::base::{Order, Refusal, Row};
-use crate::dialects::DIALECTS;
+use crate::dialects::{Dialect, DIALECTS};
 use crate::lines::words_of_line;
 
 pub fn run() -> Result<(), String> {
@@ -14,7 +14,7 @@ pub fn run() -> Result<(), String> {
     for dialect in DIALECTS {
         (dialect.check_cases)()?;
     }
-    check_two_faults()?;
+    check_answered()?;
     host::run()?;
     stored::run()?;
     made::run()?;
@@ -37,12 +37,27 @@ pub fn outcome(line: &str, order: Order) -> Outcome {
     words_of_line(line.as_bytes())?.rows(order)
 }
 
-/// Events that break two rules at once get the refusal that comes first.
-fn check_two_faults() -> Result<(), String> {
+/// Writing refuses these rows as the documents do.
+pub fn ensure_refused(dialect: &Dialect, lists: Vec<(Refusal, Vec<Row>)>) -> Result<(), String> {
+    let mut room = vec![0; dialect.largest_event];
+    for (refusal, rows) in lists {
+        let came = dialect.write(&rows.concat(), Order::Crossed, &mut room);
+        ensure(came == Err(refusal), &format!("{refusal:?}, not {came:?}, for rows {rows:?}"))?;
+    }
+    Ok(())
+}
+
+/// Reading gives each answer that the documents give, and writing gives the words back.
+fn check_answered() -> Result<(), String> {
     for dialect in DIALECTS {
-        for (refusal, words) in dialect.edges().two_faults {
+        for (answer, words) in dialect.edges().answered {
             let came = dialect.rows_of(&words, Order::Crossed);
-            ensure(came == Err(refusal), &format!("{refusal:?}, not {came:?}, for {words:x?}"))?;
+            ensure(came == answer, &format!("{answer:?}, not {came:?}, for {words:x?}"))?;
+            let Ok(rows) = answer else { continue };
+            let mut written = vec![0; words.len()];
+            let count = dialect.write(&rows.concat(), Order::Crossed, &mut written);
+            let is_same = count == Ok(words.len() as u32) && written == words;
+            ensure(is_same, &format!("{count:?}, {written:x?}, not {words:x?}, for {rows:?}"))?;
         }
     }
     Ok(())

@@ -39,6 +39,8 @@ pub struct Rows {
     pub any_limits: &'static [u32],
     /// Lists of row elements at edges that concern several rows.
     pub lists: fn() -> Vec<Vec<u32>>,
+    /// Damage to what several rows must say alike, where a random change would seldom reach it.
+    pub damage: Option<fn(&mut Rng, &mut Vec<Row>)>,
     /// Elements that need about or more words than the largest event, made from the rows of an
     /// event of so many words. None where no rows need more (no refusal 23).
     pub too_many: Option<fn(&mut Rng, &[Row], usize) -> Vec<u32>>,

@@ -8,7 +8,9 @@ mod rcnp;
 pub(crate) mod s800;
 
 pub use dialect::{marks, Dialect, Mark, Marks, Mend, Rows, Special, Wanted, Words};
-pub use native::{widened, Edges, Functions, Native, Probed, OPAQUE_EVENT, OPAQUE_WORDS};
+pub use native::{
+    refused, widened, Answered, Edges, Functions, Native, Probed, OPAQUE_EVENT, OPAQUE_WORDS,
+};
 
 /// In the order of documents 01 and 02, which is that of the dialects' numbers.
 pub static DIALECTS: [&Dialect; 3] = [&s800::DIALECT, &frs::DIALECT, &rcnp::DIALECT];

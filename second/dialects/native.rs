@@ -73,8 +73,16 @@ pub struct Edges<W> {
     /// Every tag, known or not, and every length of the known ones. They are many: lines only.
     pub headers: Vec<Vec<W>>,
     pub probed: Vec<Probed<W>>,
-    /// Events that break two rules at once, with the refusal that comes first.
-    pub two_faults: Vec<(Refusal, Vec<W>)>,
+    /// Events with their answers, among them all that break two rules at once.
+    pub answered: Vec<Answered<W>>,
+}
+
+/// An event with its rows or its refusal, as worked out from the documents and not by the reading.
+pub type Answered<W> = (Result<Vec<Row>, Refusal>, Vec<W>);
+
+/// Events that are all refused.
+pub fn refused<W>(events: Vec<(Refusal, Vec<W>)>) -> Vec<Answered<W>> {
+    events.into_iter().map(|(refusal, words)| (Err(refusal), words)).collect()
 }
 
 /// A small acceptable event, of which each bit is flipped, from a word on, and each row is
@@ -93,13 +101,13 @@ impl Edges<u16> {
             first_word,
             first_row,
         };
-        let faults = self.two_faults.iter().map(|(refusal, words)| (*refusal, widened(words)));
+        let answered = self.answered.into_iter().map(|(answer, words)| (answer, widened(&words)));
         Edges {
             smallest: widened(&self.smallest),
             layouts: all(self.layouts),
             headers: all(self.headers),
             probed: self.probed.into_iter().map(probed).collect(),
-            two_faults: faults.collect(),
+            answered: answered.collect(),
         }
     }
 }

@@ -6,9 +6,9 @@ use crate::rng::Rng;
 use crate::vectors::MOST_ELEMENTS;
 
 /// Numbers just inside and just outside the range of some field.
-pub const FIELD_LIMITS: [u32; 30] = [
-    0, 1, 3, 4, 5, 6, 7, 8, 11, 12, 15, 16, 31, 32, 33, 0xff, 0x100, 0x1ff, 0x200, 0x3ff, 0x400,
-    0xfff, 0x1000, 0x1fff, 0x2000, 0x3fff, 0x4000, 0xffff, 0x1_0000, 0xffffffff,
+pub const FIELD_LIMITS: [u32; 32] = [
+    0, 1, 3, 4, 5, 6, 7, 8, 11, 12, 15, 16, 31, 32, 33, 0x3f, 0x40, 0xff, 0x100, 0x1ff, 0x200,
+    0x3ff, 0x400, 0xfff, 0x1000, 0x1fff, 0x2000, 0x3fff, 0x4000, 0xffff, 0x1_0000, 0xffffffff,
 ];
 
 /// The elements of rows, damaged in one or two ways, then often mended.
@@ -18,9 +18,10 @@ pub fn damaged(rng: &mut Rng, dialect: &Dialect, rows: &[Row]) -> Vec<u32> {
         if rows.is_empty() {
             break;
         }
-        match rng.below(3) {
-            0 => damage_list(rng, &mut rows),
-            1 => damage_kind(rng, &mut rows),
+        match (rng.below(12), dialect.rows.damage) {
+            (0..=2, Some(damage)) => damage(rng, &mut rows),
+            (0..=4, _) => damage_list(rng, &mut rows),
+            (5..=8, _) => damage_kind(rng, &mut rows),
             _ => damage_field(rng, dialect, &mut rows),
         }
     }

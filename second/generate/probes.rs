@@ -35,8 +35,8 @@ fn and_mended(lists: Vec<Vec<u32>>, mend: Option<fn(&mut [u32])>) -> Vec<Vec<u32
     all
 }
 
-/// The elements of row lists for the writing.
-pub fn row_lists(dialect: &Dialect) -> Vec<Vec<u32>> {
+/// The elements of changed rows for the writing.
+pub fn changed_rows(dialect: &Dialect) -> Vec<Vec<u32>> {
     let rows_of = |words: &[u32]| {
         dialect.rows_of(words, Order::Crossed).expect("a probed event is acceptable")
     };
@@ -46,7 +46,6 @@ pub fn row_lists(dialect: &Dialect) -> Vec<Vec<u32>> {
         lists.extend(changed(dialect, &rows_of(&event.words), event.first_row));
     }
     lists = and_mended(lists, dialect.mend.as_ref().map(|mend| mend.rows));
-    lists.extend((dialect.rows.lists)());
     let elements = rows_of(&probed[0].words).concat();
     lists.extend((1..8).map(|cut| elements[..elements.len() - cut].to_vec()));
     lists

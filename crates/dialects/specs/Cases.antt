@@ -47,9 +47,9 @@ cases =
     ∷ case S Crossed (m 0x000e 0x000b []) (refused 7 3)
     ∷ case S Crossed (m 0x000e 0x000c []) (refused 5 3)
     ∷ case S Crossed (m 0x000f 0x0006 (0x0000 ∷ [])) (refused 5 14)
-    -- 7: sample 37, pad 146, energy 300
+    -- 7: sample 37, channel 18; pad 146, energy 300
     ∷ case S Crossed (m 0x001a 0x0006 (0x000c ∷ 0x5840 ∷ 0 ∷ 0x0005 ∷ 0x5841 ∷ 0 ∷ 0x8952 ∷ 0x092c ∷ 0x0004 ∷ 0x5845 ∷ 0 ∷ 0 ∷ []))
-    (done (mRows 0 0x00011234 (row 1 0x5840 0 0 ∷ row 7 0 0 0 ∷ row 8 37 146 300 ∷ row 9 0 0 0 ∷ [])))
+    (done (mRows 0 0x00011234 (row 1 0x5840 0 0 ∷ row 7 0 0 0 ∷ row 8 37 18 0 ∷ row 12 37 146 300 ∷ row 9 0 0 0 ∷ [])))
     -- 8: channel 19, energy 300
     ∷ case S Crossed (m 0x0012 0x0006 (0x0004 ∷ 0x58c0 ∷ 2 ∷ 0x612c ∷ [])) (done (mRows 0 0x00011234 (row 1 0x58c0 2 0 ∷ row 6 0 19 300 ∷ [])))
     -- 9: channel 8, time 100

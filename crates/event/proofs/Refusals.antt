@@ -81,6 +81,15 @@ module _ {E : Type 0} {number : ℕ → Bool} {end : ℕ} {past : ℕ → ℕ} w
           choice false = (t, omega arith)
       go limit h (refuse m k) f = f
 
+  -- a rule of the whole, at the place after it
+  pub keeps-checked : {A : Type 0} {s : List E} (holds : A → Bool) (n : ℕ) (a : A) → T (number n) → 1 ≤ past n → Keeps number end past s (here >>= λ k. checked holds n k a) (λ r. length r ≡ length s)
+  keeps-checked {s = s} holds n a t l = record { run = λ i limit e h. choice i limit e h (holds a) }
+    where
+      choice : (i limit : ℕ) → i + length s ≡ limit → limit ≤ end → (b : Bool)
+          → Fair number end past limit (λ r. length r ≡ length s) (then (λ u. give a) (cond b (ok (tt {0}) i s) (refuse n i)))
+      choice i limit e h true = (e, refl)
+      choice i limit e h false = (t, omega arith)
+
   -- an element
   pub keeps-element : {A : Type 0} {n : ℕ} {fields : E → A} {tests : E → List Test} {s : List E} → There number past n tests s → Keeps number end past s (element n fields tests) (λ r. suc (length r) ≡ length s)
   keeps-element {s = []} c = record { run = λ i limit e h. (c .0, omega arith) }

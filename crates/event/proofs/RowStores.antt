@@ -28,7 +28,7 @@ length-rows [] b k = refl
 length-rows (r ∷ rs) b k = length-rows rs (storeRow b k r) (k + 1) ∙ length-row b k r
 
 -- rows past the room
-past-room : (rs : List Row) (b : List ℕ) (k : ℕ) → room (length b) ≤ k → storeRows b k rs ≡ b
+pub past-room : (rs : List Row) (b : List ℕ) (k : ℕ) → room (length b) ≤ k → storeRows b k rs ≡ b
 unfolding storeRow
 past-room [] b k h = refl
 past-room (r ∷ rs) b k h = rw (le-ltb k (room (length b)) h) (past-room rs b (k + 1) (omega arith))

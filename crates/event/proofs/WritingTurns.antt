@@ -52,7 +52,7 @@ no-longer : (b : Bool) → false ≡ not b → b ≡ true
 no-longer true e = refl
 no-longer false e = e
 
-still : (b : Bool) → true ≡ not b → b ≡ false
+pub still : (b : Bool) → true ≡ not b → b ≡ false
 still true e = e
 still false e = refl
 

@@ -22,6 +22,8 @@ pub const HODOSCOPE_HITS: u32 = 10;
 
 pub const OPAQUE_WORD: u32 = 11;
 
+pub const SAMPLE_DATUM: u32 = 12;
+
 pub const F_STAMP: u32 = 16;
 
 pub const SCALER_BLOCK: u32 = 17;

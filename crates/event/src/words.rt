@@ -1,5 +1,6 @@
 // Words in a lent buffer.
 ghost use mathlib.Core.Path.{_≡_};
+ghost use mathlib.Core.Bool.{cond};
 ghost use Prim.Native.Nat.{min};
 ghost use denote.Ref.{now};
 ghost use Rattle.event.specs.Words.{storeWord};
@@ -20,6 +21,13 @@ pub fn store_word32(words: &mut [u32], at: usize, word: u32)
     if at < words.len() {
         words[at] = word;
     }
+}
+
+// One number or the other: a choice without a branch, for loops over words whose kind cannot be foreseen.
+pub fn pick(first: bool, a: u32, b: u32) -> u32
+    ensures { λ r. ⌜ r ≡ cond first a b ⌝ }
+{
+    if first { a } else { b }
 }
 
 // The place `at`, or the end where `at` lies past it: where a part of `length` words starts that is empty past the end, or where one of the first words ends.

@@ -56,7 +56,7 @@ calls =
     ∷ call (m 0x0e 0x0c) 0 (refusal 5 3)
     ∷ call (m 0x0f 0x06 ++ (0 ∷ 0 ∷ [])) 0 (refusal 5 14)
     -- case 7 behind M
-    ∷ call (m 0x1a 0x06 ++ samples) 1 8
+    ∷ call (m 0x1a 0x06 ++ samples) 1 9
     -- high byte first is no event
     ∷ call (exchanged (m 0x0e 0x06)) 0 (refusal 2 0)
     ∷ []

@@ -6,9 +6,9 @@ use event::kind;
 use event::refusal;
 use event::rows::fitting;
 use event::rows::store_row;
+use event::words::pick;
 ghost use Prim.Native.Nat.{_-_, _/_, _%_, _≤_, _<_};
 ghost use mathlib.Core.Path.{_≡_};
-ghost use mathlib.Core.Bool.{cond};
 ghost use mathlib.Core.List.{map};
 ghost use lib.ListN.{length};
 ghost use lib.Seq.{slice};
@@ -82,12 +82,6 @@ fn vdc_row(w: u32) -> Row
         channel: pick(head, w / 2048 % 8, w / 1024),
         datum: pick(head, w / 256 % 8, w % 1024),
     }
-}
-
-fn pick(first: bool, a: u32, b: u32) -> u32
-    ensures { λ r. ⌜ r ≡ cond first a b ⌝ }
-{
-    if first { a } else { b }
 }
 
 // Scalers, two words each: low 16 bits, then the upper 8 bits with zero above.

@@ -143,13 +143,17 @@ ionChamber =
     ∷ ok (6 ∷ 0x5820 ∷ 4 ∷ 0x5821 ∷ 0xffff ∷ 0x0000 ∷ []) (row 1 0x5820 0 0 ∷ row 6 0 15 4095 ∷ row 6 0 0 0 ∷ [])
     ∷ no (7 ∷ 0x5820 ∷ 5 ∷ 0x5821 ∷ 0xf064 ∷ 0x0064 ∷ 0xf065 ∷ []) 11 20 ∷ []
 
--- 0x5840, even, 10 and up: id 0 or 1; 0x5841 as long as the packet less 7; 0x5845 of length 4. 8 before 9.
+-- 0x5840, 10 and up: id 0 or 1; 0x5841 as long as the packet less 7 (its groups: proofs/GroupEdges); 0x5845 of length 4. 8 before 9.
 abbrev crdc : List Vector
 crdc =
     no (8 ∷ 0x5840 ∷ 0 ∷ 1 ∷ 0x5841 ∷ 4 ∷ 0x5845 ∷ 0 ∷ []) 7 14
     ∷ no (9 ∷ 0x5840 ∷ 0 ∷ 2 ∷ 0x5841 ∷ 4 ∷ 0x5845 ∷ 1 ∷ 2 ∷ []) 7 14
     ∷ ok (10 ∷ 0x5840 ∷ 0 ∷ 3 ∷ 0x5841 ∷ 0xffff ∷ 4 ∷ 0x5845 ∷ 0xffff ∷ 0xfffe ∷ []) (row 1 0x5840 0 0 ∷ row 7 0 0 0xffff ∷ row 9 0 0xffff 0xfffe ∷ [])
-    ∷ no (11 ∷ 0x5840 ∷ 0 ∷ 4 ∷ 0x5841 ∷ 9 ∷ 0x8000 ∷ 4 ∷ 0x5845 ∷ 1 ∷ 2 ∷ []) 7 14
+    ∷ no (11 ∷ 0x5840 ∷ 0 ∷ 4 ∷ 0x5841 ∷ 9 ∷ 0x8000 ∷ 4 ∷ 0x5845 ∷ 1 ∷ 2 ∷ []) 10 20
+    ∷ no (11 ∷ 0x5840 ∷ 0 ∷ 3 ∷ 0x5841 ∷ 9 ∷ 0x8000 ∷ 4 ∷ 0x5845 ∷ 1 ∷ 2 ∷ []) 9 17
+    ∷ ok (12 ∷ 0x5840 ∷ 0 ∷ 5 ∷ 0x5841 ∷ 9 ∷ 0x8000 ∷ 0 ∷ 4 ∷ 0x5845 ∷ 1 ∷ 2 ∷ []) (row 1 0x5840 0 0 ∷ row 7 0 0 9 ∷ row 8 0 0 0 ∷ row 12 0 0 0 ∷ row 9 0 1 2 ∷ [])
+    ∷ ok (13 ∷ 0x5840 ∷ 0 ∷ 6 ∷ 0x5841 ∷ 9 ∷ 0x8000 ∷ 0 ∷ 0x0400 ∷ 4 ∷ 0x5845 ∷ 1 ∷ 2 ∷ [])
+    (row 1 0x5840 0 0 ∷ row 7 0 0 9 ∷ row 8 0 0 0 ∷ row 12 0 0 0 ∷ row 12 0 64 0 ∷ row 9 0 1 2 ∷ [])
     ∷ no (10 ∷ 0x5840 ∷ 2 ∷ 3 ∷ 0x5841 ∷ 9 ∷ 4 ∷ 0x5845 ∷ 1 ∷ 2 ∷ []) 8 16
     ∷ no (10 ∷ 0x5840 ∷ 0x0100 ∷ 4 ∷ 0x5841 ∷ 9 ∷ 4 ∷ 0x5845 ∷ 1 ∷ 2 ∷ []) 8 16
     ∷ no (10 ∷ 0x5840 ∷ 1 ∷ 2 ∷ 0x5841 ∷ 9 ∷ 4 ∷ 0x5845 ∷ 1 ∷ 2 ∷ []) 9 17
@@ -160,26 +164,6 @@ crdc =
     ∷ no (10 ∷ 0x5840 ∷ 1 ∷ 3 ∷ 0x5841 ∷ 9 ∷ 5 ∷ 0x5845 ∷ 1 ∷ 2 ∷ 2 ∷ 0x5802 ∷ []) 9 20
     ∷ no (10 ∷ 0x5840 ∷ 1 ∷ 3 ∷ 0x5841 ∷ 9 ∷ 4 ∷ 0x5844 ∷ 1 ∷ 2 ∷ []) 9 21
     ∷ no (10 ∷ 0x5840 ∷ 1 ∷ 3 ∷ 0x5841 ∷ 9 ∷ 4 ∷ 0x5846 ∷ 1 ∷ 2 ∷ []) 9 21 ∷ []
-
--- A packet 0x5840 of id 1 with one sample, its words at places 20 and 21.
-abbrev one : (head datum : ℕ) → List ℕ
-one h d = 12 ∷ 0x5840 ∷ 1 ∷ 5 ∷ 0x5841 ∷ 9 ∷ h ∷ d ∷ 4 ∷ 0x5845 ∷ 1 ∷ 2 ∷ []
-
-abbrev oneRows : (sample pad energy : ℕ) → List Row
-oneRows s p e = row 1 0x5840 1 0 ∷ row 7 0 0 9 ∷ row 8 s p e ∷ row 9 0 1 2 ∷ []
-
--- A sample: bit 15 set, sample in bits 14-6, channel in bits 5-0; bits 15-12 zero, connector in bits 11-10, energy in bits 9-0. A pad may come twice.
-abbrev samples : List Vector
-samples =
-    ok (one 0x8000 0x0000) (oneRows 0 0 0)
-    ∷ ok (one 0xffff 0x0fff) (oneRows 511 255 1023)
-    ∷ ok (one 0xffc0 0x0c00) (oneRows 511 192 0)
-    ∷ ok (one 0x803f 0x03ff) (oneRows 0 63 1023)
-    ∷ ok (one 0x8040 0x0400) (oneRows 1 64 0)
-    ∷ no (one 0x7fff 0x0000) 10 20
-    ∷ no (one 0x8000 0x1000) 10 21 ∷ no (one 0x8000 0x8000) 10 21
-    ∷ no (one 0x0000 0x1000) 10 20
-    ∷ ok (14 ∷ 0x5840 ∷ 1 ∷ 7 ∷ 0x5841 ∷ 9 ∷ 0x8000 ∷ 1 ∷ 0x8000 ∷ 2 ∷ 4 ∷ 0x5845 ∷ 1 ∷ 2 ∷ []) (row 1 0x5840 1 0 ∷ row 7 0 0 9 ∷ row 8 0 0 1 ∷ row 8 0 0 2 ∷ row 9 0 1 2 ∷ []) ∷ []
 
 -- 0x58B0: id 0 or 1, 3 to 19: energies, row channel 16 × id + channel, none twice. Id 2, length 6: A, B, time. 7, then 8, then 7 again.
 abbrev hodoscope : List Vector
@@ -225,7 +209,7 @@ opaques =
     ++ map (λ t. ok (5 ∷ t ∷ 0xffff ∷ 0 ∷ 0xffff ∷ []) (row 1 t 0 0 ∷ row 11 0 0 0xffff ∷ row 11 0 0 0 ∷ row 11 0 0 0xffff ∷ [])) opaqueTags
 
 abbrev pub vectors : List Vector
-vectors = events ++ firstPackets ++ runs ++ trigger ++ timeOfFlight ++ scintillator ++ ionChamber ++ crdc ++ samples ++ hodoscope ++ others ++ opaques
+vectors = events ++ firstPackets ++ runs ++ trigger ++ timeOfFlight ++ scintillator ++ ionChamber ++ crdc ++ hodoscope ++ others ++ opaques
 
 -- each reading is the expected one
 pub edges : map (λ (v : Vector). reading (v .order) (v .words)) vectors ≡ map (λ (v : Vector). v .outcome) vectors

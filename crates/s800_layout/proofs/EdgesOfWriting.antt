@@ -40,7 +40,7 @@ abbrev noAt : (at : ℕ) → Row → (number place : ℕ) → List Vector
 noAt i r n k = vector Crossed (flat (set (m []) i r)) (refused n k) ∷ vector Rising (flat (set (m []) i r)) (refused n k) ∷ []
 
 -- after M's rows and these, a row that may stand there and has a field that may not: 22 at it
-abbrev bad : List Row → Row → Vector
+abbrev pub bad : List Row → Row → Vector
 bad before r = no (before ++ (r ∷ [])) 22 (4 + length before)
 
 -- after M's rows and these, every kind but the allowed ones: 21 at it, though the tag is a good one and a field is wrong
@@ -51,11 +51,11 @@ but allowed (k ∷ ks) = cond (member k allowed) (but allowed ks) (k ∷ but all
 abbrev kinds : List ℕ
 kinds = 0 ∷ 1 ∷ 2 ∷ 3 ∷ 4 ∷ 5 ∷ 6 ∷ 7 ∷ 8 ∷ 9 ∷ 10 ∷ 11 ∷ 12 ∷ 16 ∷ 17 ∷ 18 ∷ 19 ∷ 20 ∷ 21 ∷ 22 ∷ 0x00010001 ∷ 0xffffffff ∷ []
 
-abbrev only : (allowed : List ℕ) → List Row → List Vector
+abbrev pub only : (allowed : List ℕ) → List Row → List Vector
 only allowed before = map (λ k. no (before ++ (row k 0x5802 0 0 ∷ [])) 21 (4 + length before)) (but allowed kinds)
 
 -- the same where the packet may not end: 21 also at the row count, where the rows end
-abbrev onlyInside : (allowed : List ℕ) → List Row → List Vector
+abbrev pub onlyInside : (allowed : List ℕ) → List Row → List Vector
 onlyInside allowed before = no before 21 (4 + length before) ∷ only allowed before
 
 -- 20, before all else. Rows that end too early: 21 at the row count.
@@ -147,18 +147,12 @@ ionChamber =
     ∷ ok (row 1 0x5820 0 0 ∷ row 6 0 15 4095 ∷ row 6 0 0 0 ∷ []) (6 ∷ 0x5820 ∷ 4 ∷ 0x5821 ∷ 0xffff ∷ 0x0000 ∷ [])
     ∷ ok (row 1 0x5820 0 0 ∷ risingRows 6 0 0 100 16) (20 ∷ 0x5820 ∷ 18 ∷ 0x5821 ∷ rising 0x0064 0x1001 16) ∷ [])
 
--- 0x5840: a threshold of 16 bits, samples (9 bits, pad below 256, energy of 10 bits; a pad may come twice), an anode of 16 and 16 bits
+-- 0x5840: a threshold of 16 bits, groups (proofs/GroupEdges), an anode of 16 and 16 bits
 abbrev crdc : List Vector
 crdc =
-    onlyInside (7 ∷ []) (row 1 0x5840 1 0 ∷ []) ++ onlyInside (8 ∷ 9 ∷ []) (row 1 0x5840 1 0 ∷ row 7 0 0 9 ∷ []) ++ onlyInside (8 ∷ 9 ∷ []) (row 1 0x5840 1 0 ∷ row 7 0 0 9 ∷ row 8 37 146 300 ∷ [])
-    ++ only (1 ∷ []) (row 1 0x5840 1 0 ∷ row 7 0 0 9 ∷ row 9 0 1 2 ∷ []) ++ only (1 ∷ []) (row 1 0x5840 1 0 ∷ row 7 0 0 9 ∷ row 8 37 146 300 ∷ row 9 0 1 2 ∷ [])
-    ++ map (bad (row 1 0x5840 1 0 ∷ [])) (row 7 1 0 9 ∷ row 7 0 1 9 ∷ row 7 0 0 0x00010000 ∷ [])
-    ++ map (bad (row 1 0x5840 1 0 ∷ row 7 0 0 9 ∷ []))
-    (row 8 512 146 300 ∷ row 8 37 256 300 ∷ row 8 37 146 1024 ∷ row 8 0xffffffff 146 300 ∷ row 9 1 1 2 ∷ row 9 0 0x00010000 2 ∷ row 9 0 1 0x00010000 ∷ row 9 0 1 0xffffffff ∷ [])
-    ++ map (bad (row 1 0x5840 1 0 ∷ row 7 0 0 9 ∷ row 8 37 146 300 ∷ [])) (row 8 512 146 300 ∷ row 8 37 256 300 ∷ row 8 37 146 1024 ∷ row 9 1 1 2 ∷ row 9 0 0x00010000 2 ∷ row 9 0 1 0x00010000 ∷ [])
-    ++ (ok (row 1 0x5840 0 0 ∷ row 7 0 0 0xffff ∷ row 9 0 0xffff 0xfffe ∷ []) (10 ∷ 0x5840 ∷ 0 ∷ 3 ∷ 0x5841 ∷ 0xffff ∷ 4 ∷ 0x5845 ∷ 0xffff ∷ 0xfffe ∷ [])
-    ∷ ok (row 1 0x5840 1 0 ∷ row 7 0 0 0 ∷ row 8 511 255 1023 ∷ row 8 0 0 0 ∷ row 8 0 63 1023 ∷ row 8 1 64 0 ∷ row 8 1 64 0 ∷ row 9 0 0 0 ∷ [])
-    (20 ∷ 0x5840 ∷ 1 ∷ 13 ∷ 0x5841 ∷ 0 ∷ 0xffff ∷ 0x0fff ∷ 0x8000 ∷ 0x0000 ∷ 0x803f ∷ 0x03ff ∷ 0x8040 ∷ 0x0400 ∷ 0x8040 ∷ 0x0400 ∷ 4 ∷ 0x5845 ∷ 0 ∷ 0 ∷ []) ∷ [])
+    onlyInside (7 ∷ []) (row 1 0x5840 1 0 ∷ []) ++ map (bad (row 1 0x5840 1 0 ∷ [])) (row 7 1 0 9 ∷ row 7 0 1 9 ∷ row 7 0 0 0x00010000 ∷ [])
+    ++ map (bad (row 1 0x5840 1 0 ∷ row 7 0 0 9 ∷ [])) (row 9 1 1 2 ∷ row 9 0 0x00010000 2 ∷ row 9 0 1 0x00010000 ∷ row 9 0 1 0xffffffff ∷ [])
+    ++ (ok (row 1 0x5840 0 0 ∷ row 7 0 0 0xffff ∷ row 9 0 0xffff 0xfffe ∷ []) (10 ∷ 0x5840 ∷ 0 ∷ 3 ∷ 0x5841 ∷ 0xffff ∷ 4 ∷ 0x5845 ∷ 0xffff ∷ 0xfffe ∷ []) ∷ [])
 
 -- 0x58B0: id 0 or 1, energies, channel 16 × id to 16 × id + 15, none twice; id 2, one row of hits of 16, 16 and 16 bits
 abbrev hodoscope : List Vector

@@ -12,7 +12,7 @@ use Rattle.event.specs.Parser.{each}
 use Rattle.event.proofs.Elements.{in-between, each-length}
 use Rattle.event.proofs.Keys.{unused, at-most}
 use Rattle.s800_layout.specs.Event.{Datum, Pair, energies, hits, focalPlaneTime, intermediateCrdc, targetPin, intermediateTrack, intermediatePpac, objectScintillator, Form, trigger, timeOfFlight, scintillator, ionChamber, crdc, hodoscope, objectPin, vmeAdc, opaque, Content, samplesTag, anodeTag, tag, formOf, ChannelFormat, triggerTime, flightTime, pairEnergy, energy16, adcEnergy}
-use Rattle.s800_layout.specs.Layout.{framed, datumWord, pairWords, sampleWords, samplesWords, anodeWords, contentWords, ValidDatum, ValidData, ValidPair, ValidContent}
+use Rattle.s800_layout.specs.Layout.{framed, datumWord, pairWords, samplesWords, anodeWords, contentWords, ValidDatum, ValidData, ValidPair, ValidContent}
 use Rattle.s800_layout.specs.Reading.{even, allowedLength}
 
 pub form-back : (f : Form) → formOf (tag f) ≡ f
@@ -50,9 +50,8 @@ length-allowed scintillator xs v =
     is-even (2 + length (each pairWords xs)) _ (omega (arith, h)) (in-between 2 14 (size scintillator xs) (omega arith) (omega (arith, h, m)))
 length-allowed ionChamber xs v = in-between 4 20 (size ionChamber xs) (omega arith) (omega (arith, few energy16 xs v))
 length-allowed crdc c v =
-    let h = each-length sampleWords 2 (λ x. refl) (c .samples .samples) in
     let k = length-append (framed samplesTag (samplesWords (c .samples))) (framed anodeTag (anodeWords (c .anode))) in
-    is-even (2 + length (contentWords crdc c)) _ (omega (arith, h, k)) (rw (le-leb 10 (2 + length (contentWords crdc c)) (omega (arith, k))) tt)
+    rw (le-leb 10 (2 + length (contentWords crdc c)) (omega (arith, k))) tt
 length-allowed hodoscope (energies id xs) v = in-between 3 19 (size hodoscope (energies id xs)) (omega arith) (omega (arith, few energy16 xs (v .1)))
 length-allowed hodoscope (hits h) v = tt
 length-allowed objectPin d v = tt

@@ -1,4 +1,5 @@
 pub mod Lengths
+pub mod Groups
 pub mod Words
 pub mod Rows
 pub mod Event
@@ -7,6 +8,7 @@ pub mod Writing
 pub mod Width
 pub mod Edges
 pub mod EdgesOfWriting
+pub mod GroupEdges
 pub mod Refusals
 pub mod WritingRefusals
 pub mod Rooms

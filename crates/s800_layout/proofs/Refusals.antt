@@ -14,11 +14,11 @@ use Rattle.event.specs.Words.{exactly, between}
 use Rattle.event.specs.Outcome.{refused}
 use Rattle.event.proofs.Codes.{true-T}
 use Rattle.event.proofs.Elements.{both, bounds}
-use Rattle.event.proofs.Refusals.{Keeps, either, keeps-give, keeps-left, keeps-bind, keeps-map, keeps-require, keeps-element, keeps-next, keeps-here, keeps-within, keeps-many, keeps-ok}
+use Rattle.event.proofs.Refusals.{Keeps, either, keeps-give, keeps-left, keeps-bind, keeps-map, keeps-require, keeps-element, keeps-next, keeps-here, keeps-within, keeps-many, keeps-ok, keeps-many-at}
 use Rattle.event.proofs.ReadingRefusals.{fills-words, reading-refused}
 use Rattle.s800_layout.specs.Event.{Content, Form, trigger, timeOfFlight, scintillator, ionChamber, crdc, hodoscope, objectPin, vmeAdc, opaque, stampTag, numberTag, energiesTag, samplesTag, anodeTag, ChannelFormat, triggerTime, flightTime, energy16, adcEnergy}
-use Rattle.s800_layout.specs.Layout.{rows, smallestEvent, largestEvent, channels, pairChannels}
-use Rattle.s800_layout.specs.Reading.{even, allowedLength, bodyOf, packetOf, inner, whole, datum, channelWords, pair, sample, samples, anode, registers, content, formWord, packetContent, packet, stampContent, numberContent, eventParser, reading}
+use Rattle.s800_layout.specs.Layout.{rows, smallestEvent, largestEvent, channels, pairChannels, above, hasData}
+use Rattle.s800_layout.specs.Reading.{even, allowedLength, bodyOf, packetOf, inner, whole, datum, channelWords, pair, samples, anode, registers, content, formWord, packetContent, packet, stampContent, numberContent, eventParser, reading, sampleDatum, atHead, group}
 
 -- Every place is before `bound`. A content of an allowed length finds all its words and leaves none: so there is no refusal past the words, and none by 0.
 module _ (bound : ℕ) where
@@ -51,9 +51,14 @@ module _ (bound : ℕ) where
   fills-channels : (f : ChannelFormat) (s : List ℕ) → Fills s (channelWords f)
   fills-channels f = fills-words (datum f) channels (λ seen s l. keeps-element (omega arith)) []
 
-  fills-samples : (s : List ℕ) → length s % 2 ≡ 1 → Fills s samples
+  reads-group : (s : List ℕ) → 1 ≤ length s → Reads s group (λ r. length r < length s)
+  reads-group s l = keeps-here (omega arith) λ p b h r e. keeps-bind
+      (keeps-many-at sampleDatum above atHead tt (λ r. length r < length s) (λ least s g l. keeps-left (keeps-element (omega arith)) (λ r e. (omega arith, omega arith))) 0 r (omega arith))
+      (λ xs r₁ g. keeps-bind (keeps-require (hasData (record { head = h; energies = xs })) 10 p tt b) (λ u r₂ g₂. keeps-give (omega arith)))
+
+  fills-samples : (s : List ℕ) → 1 ≤ length s → Fills s samples
   fills-samples s l = keeps-next (omega arith) λ t r e. keeps-map _
-      (keeps-many (λ u. sample) alone (λ r. length r % 2 ≡ 0) (λ u s g l. keeps-next (omega arith) λ h r e. keeps-next (omega arith) λ d r₁ e₁. keeps-give (omega arith)) tt r (omega arith))
+      (keeps-many (λ u. group) alone (λ r. Unit {0}) (λ u s g l. keeps-left (reads-group s l) (λ r e. (e, tt))) tt r tt)
 
   fills-anode : (s : List ℕ) → length s ≡ 2 → Fills s anode
   fills-anode s l = keeps-next (omega arith) λ a r e. keeps-next (omega arith) λ t r₁ e₁. keeps-give (omega arith)
@@ -76,9 +81,8 @@ module _ (bound : ℕ) where
   fills-content ionChamber p n s a b l = let g = bounds 4 20 n a in
       keeps-left (reads-inner (n - 2) energiesTag (channelWords energy16) (omega arith) (omega arith) (λ r h. fills-channels energy16 r)) (λ r e. omega arith)
   fills-content crdc p n s a b l =
-      let h = both (even n) (leb 10 n) a in
-      let g = leb→le 10 n (h .1) in
-      keeps-next (omega arith) λ id r e. keeps-bind (reads-inner (n - 7) samplesTag samples (omega arith) (omega arith) (λ s k. fills-samples s (omega (arith, eqb→eq)))) λ x r₁ e₁.
+      let g = leb→le 10 n a in
+      keeps-next (omega arith) λ id r e. keeps-bind (reads-inner (n - 7) samplesTag samples (omega arith) (omega arith) (λ s k. fills-samples s (omega arith))) λ x r₁ e₁.
       keeps-bind (reads-inner 4 anodeTag anode (omega arith) (omega arith) (λ s k. fills-anode s (omega arith))) λ y r₂ e₂. keeps-give (omega arith)
   fills-content hodoscope p n s a b l = keeps-next (omega (arith, bounds 3 19 n a)) λ id r e. either (λ q. Fills r q) (eqb id 2)
       (keeps-bind (keeps-require (eqb n 6) 7 p tt b) λ u r₁ e₁. keeps-map _ (fills-registers r₁ (omega (arith, eqb→eq))))

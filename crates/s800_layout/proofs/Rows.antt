@@ -5,24 +5,25 @@ use native.Mathlib.Omega.{arith}
 use mathlib.Core.Path.{_≡_, refl, ap, sym, _∙_, subst}
 use mathlib.Core.Bool.{true, false}
 use mathlib.Core.List.{List, [], _∷_, map}
-use lib.Dec.{T, ltb, leb, eqb, ltb→lt, leb→le, eqb-refl}
+use lib.Dec.{T, ltb, leb, eqb, ltb→lt, leb→le, eqb-refl, eqb→eq}
 use borrow.Author.Tests.{eqb-true, eqb-false, lt-ltb, le-leb}
 use Rattle.event.specs.declared.Row.{Row}
 use Rattle.event.specs.declared.StampOrder.{StampOrder}
 use Rattle.event.specs.declared.StampOrder.the-variants.{Crossed, Rising}
-use Rattle.event.specs.Parser.{Parser, Passed, _>>=_, give, All}
+use Rattle.event.specs.Parser.{Parser, Passed, _>>=_, give, All, several, each}
 use Rattle.event.specs.Words.{belowChecks}
 use Rattle.event.specs.Rows.{row}
 use Rattle.event.specs.Writing.{ofKind, atKind}
-use Rattle.event.proofs.Codes.{Codes, any, At, true-T, same, less, codes-cond}
+use Rattle.event.proofs.Codes.{Codes, any, At, true-T, same, less, codes-here, codes-cond, codes-checked}
 use Rattle.event.proofs.Sequences.{codes-bind, codes-bind-at, codes-map, codes-image}
 use Rattle.event.proofs.Many.{codes-many}
-use Rattle.event.proofs.Elements.{prints-map, prints-each, codes-several, each-map}
+use Rattle.event.proofs.Elements.{prints-map, prints-each, codes-several, each-map, codes-several-at}
 use Rattle.event.proofs.RowCodes.{codes-row}
-use Rattle.s800_layout.specs.Event.{Datum, Trigger, Pair, Sample, Samples, Crdc, Registers, Hodoscope, energies, hits, Adc, Form, trigger, timeOfFlight, scintillator, ionChamber, crdc, hodoscope, objectPin, vmeAdc, opaque, Content, Packet, Stamp, Number, stampTag, numberTag, tag, hitsId, largestId, idOf, patternBound, ChannelFormat, triggerTime, flightTime, pairEnergy, energy16, adcEnergy}
-use Rattle.s800_layout.specs.Layout.{lowestFirst, stampRow, numberRow, datumRow, pairRows, sampleRow, registerRow, anodeRow, contentRows, packetRows, stampChecks, numberChecks, idChecks, datumChecks, sampleChecks, anodeChecks, registerChecks, channels, pairChannels, ValidDatum, ValidData, ValidPair, ValidContent}
-use Rattle.s800_layout.specs.Writing.{ofTag, atPacket, datumBelow, datumOf, datum, channelRows, pair, sampleOf, sample, samples, anode, registers, hitsContent, energiesContent, content, Header, headerOf, headerRow, header, packet, ownRow, chunksOf, stampOf, stampPacket, numberOf, numberPacket}
+use Rattle.s800_layout.specs.Event.{Datum, Trigger, Pair, Samples, Crdc, Registers, Hodoscope, energies, hits, Adc, Form, trigger, timeOfFlight, scintillator, ionChamber, crdc, hodoscope, objectPin, vmeAdc, opaque, Content, Packet, Stamp, Number, stampTag, numberTag, tag, hitsId, largestId, idOf, patternBound, ChannelFormat, triggerTime, flightTime, pairEnergy, energy16, adcEnergy, SampleHead, SampleDatum, Group}
+use Rattle.s800_layout.specs.Layout.{lowestFirst, stampRow, numberRow, datumRow, pairRows, registerRow, anodeRow, contentRows, packetRows, stampChecks, numberChecks, idChecks, datumChecks, anodeChecks, registerChecks, channels, pairChannels, ValidDatum, ValidData, ValidPair, ValidContent, sampleHeadRow, sampleDatumRow, groupRows, sampleHeadChecks, sampleDatumChecks, above, ValidSampleDatum, hasData, ValidGroup}
+use Rattle.s800_layout.specs.Writing.{ofTag, atPacket, datumBelow, datumOf, datum, channelRows, pair, samples, anode, registers, hitsContent, energiesContent, content, Header, headerOf, headerRow, header, packet, ownRow, chunksOf, stampOf, stampPacket, numberOf, numberPacket, sampleHeadOf, sampleDatumOf, sampleDatum, afterData, group}
 use Rattle.s800_layout.proofs.Lengths.{form-back}
+use Rattle.s800_layout.proofs.Groups.{codes-grouped}
 
 pub codes-below : (kind channel bound : ℕ) → Codes any (datumBelow kind channel bound) (λ d. row kind 0 channel d ∷ []) (λ d. Passed (belowChecks 0 bound d))
 codes-below kind channel bound = codes-row (ofKind kind) (λ r. r .datum) (row kind 0 channel) (belowChecks 22 bound) (λ d. eqb-refl kind) (λ d g. refl)
@@ -45,23 +46,31 @@ codes-pair seen = same
     (λ e x g. ap (λ (y : Pair). y .energy) (g .1)))
     (λ x g. (g .0, g .1 .0)) (λ x g. (g .0, (g .1, refl))) (λ x g. refl)
 
-pub codes-sample : Codes any sample (λ s. sampleRow s ∷ []) (λ s. Passed (sampleChecks 0 s))
-codes-sample = codes-row (ofKind 8) sampleOf sampleRow (sampleChecks 22) (λ s. tt) back
+pub codes-sample-datum : (h : SampleHead) → Passed (sampleHeadChecks 0 h) → (least : ℕ) → Codes any (sampleDatum h least) (λ d. sampleDatumRow h d ∷ []) (ValidSampleDatum least)
+codes-sample-datum h p least = codes-row (ofKind 12) sampleDatumOf (sampleDatumRow h) (sampleDatumChecks 22 least) (λ d. tt) back
   where
-    back : (s : Sample) → Passed (sampleChecks 0 s) → sampleOf (sampleRow s) ≡ s
-    back s p =
-        let c : sampleOf (sampleRow s) .head .channel ≡ s .head .channel = omega (arith, ltb→lt) in
-        let d : sampleOf (sampleRow s) .datum .connector ≡ s .datum .connector = omega (arith, ltb→lt) in
-        λ i. record { head = record { sample = s .head .sample; channel = c i }; datum = record { connector = d i; energy = s .datum .energy } }
+    back : (d : SampleDatum) → ValidSampleDatum least d → sampleDatumOf (sampleDatumRow h d) ≡ d
+    back d g = let c : sampleDatumOf (sampleDatumRow h d) .connector ≡ d .connector = omega (arith, ltb→lt (h .channel) 64 (p .1 .0)) in λ i. record { connector = c i; energy = d .energy }
+
+pub codes-group : Codes (At afterData) group groupRows ValidGroup
+codes-group = codes-grouped sampleHeadRow sampleDatumRow afterData (codes-row (ofKind 8) sampleHeadOf sampleHeadRow (sampleHeadChecks 22) (λ h. tt) (λ h g. refl))
+    codes-sample-datum (λ g. codes-here λ k. codes-checked hasData 21 k g) (λ h least d g r. refl) refl
+
+pub group-last : (r : List Row) → T (atKind 9 r) → T (afterData r)
+group-last [] t = tt
+group-last (x ∷ r) t = rw (sym (eqb→eq 9 (x .kind) t)) tt
+
+pub codes-groups : Codes (At (atKind 9)) (several group (atKind 9)) (each groupRows) (All ValidGroup)
+codes-groups = codes-several-at (atKind 9) codes-group (λ x g r. tt) group-last (λ x g r. refl) refl
 
 abbrev samplesRows : Samples → List Row
-samplesRows s = row 7 0 0 (s .threshold) ∷ map sampleRow (s .samples)
+samplesRows s = row 7 0 0 (s .threshold) ∷ each groupRows (s .groups)
 
-pub codes-samples : Codes (At (atKind 9)) samples samplesRows (λ s. Passed (belowChecks 0 (2 ^ 16) (s .threshold)) × All (λ x. Passed (sampleChecks 0 x)) (s .samples))
+pub codes-samples : Codes (At (atKind 9)) samples samplesRows (λ s. Passed (belowChecks 0 (2 ^ 16) (s .threshold)) × All ValidGroup (s .groups))
 codes-samples = same
-    (codes-bind (λ s. s .threshold) (codes-below 7 0 (2 ^ 16)) (λ t g. codes-map _ (λ s. s .samples) (codes-several (atKind 9) codes-sample (λ s g r. refl) refl) (λ xs. refl))
+    (codes-bind (λ s. s .threshold) (codes-below 7 0 (2 ^ 16)) (λ t g. codes-map _ (λ s. s .groups) codes-groups (λ xs. refl))
     (λ t s g. ap (λ (y : Samples). y .threshold) (g .1)))
-    (λ s g. (g .0, g .1 .0)) (λ s g. (g .0, (g .1, refl))) (λ s g. ap (row 7 0 0 (s .threshold) ∷_) (each-map sampleRow (s .samples)))
+    (λ s g. (g .0, g .1 .0)) (λ s g. (g .0, (g .1, refl))) (λ s g. refl)
 
 pub codes-anode : Codes any anode (λ a. anodeRow a ∷ []) (λ a. Passed (anodeChecks 0 a))
 codes-anode = codes-row (ofKind 9) _ anodeRow (anodeChecks 22) (λ a. tt) (λ a g. refl)

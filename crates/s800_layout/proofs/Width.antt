@@ -11,8 +11,8 @@ use Rattle.event.specs.Parser.{Passed, All, member, alone}
 use Rattle.event.specs.Demands.{InWidth}
 use Rattle.event.proofs.Elements.{all-goods}
 use Rattle.event.proofs.Width.{Narrow, Fit, known, word, joined, wholes, items, item-words}
-use Rattle.s800_layout.specs.Event.{Datum, Pair, Sample, energies, hits, Opaque, focalPlaneTime, intermediateCrdc, targetPin, intermediateTrack, intermediatePpac, objectScintillator, Form, trigger, timeOfFlight, scintillator, ionChamber, crdc, hodoscope, objectPin, vmeAdc, opaque, Content, Run, end, plain, Event, eventTag, stampTag, numberTag, energiesTag, samplesTag, anodeTag, tag, ChannelFormat, triggerTime, flightTime, pairEnergy, energy16, adcEnergy}
-use Rattle.s800_layout.specs.Layout.{framed, channelWord, datumWord, pairWords, sampleWords, anodeWords, registerWords, contentWords, runWords, stampWords, numberWords, version, words, sampleChecks, channels, pairChannels, ValidDatum, ValidData, ValidPair, ValidContent, ValidRun, Valid}
+use Rattle.s800_layout.specs.Event.{Datum, Pair, energies, hits, Opaque, focalPlaneTime, intermediateCrdc, targetPin, intermediateTrack, intermediatePpac, objectScintillator, Form, trigger, timeOfFlight, scintillator, ionChamber, crdc, hodoscope, objectPin, vmeAdc, opaque, Content, Run, end, plain, Event, eventTag, stampTag, numberTag, energiesTag, samplesTag, anodeTag, tag, ChannelFormat, triggerTime, flightTime, pairEnergy, energy16, adcEnergy, SampleDatum, Group}
+use Rattle.s800_layout.specs.Layout.{framed, channelWord, datumWord, pairWords, anodeWords, registerWords, contentWords, runWords, stampWords, numberWords, version, words, channels, pairChannels, ValidDatum, ValidData, ValidPair, ValidContent, ValidRun, Valid, sampleHeadWord, sampleDatumWord, groupWords, above, ValidSampleDatum, ValidGroup}
 
 ruleset tests = (arith, ltb→lt, leb→le, lt→ltb)
 
@@ -45,8 +45,11 @@ pair-fits seen x v =
     let fits = channel-fits pairEnergy (omega arith) (x .energy .channel) in
     known _ (fits (x .energy .value) (v .0 .0) (v .0 .1 .0), (fits (x .time) (v .0 .0) (v .1 .0), tt))
 
-sample-fits : (s : Sample) → Passed (sampleChecks 0 s) → Fit 16 (sampleWords s)
-sample-fits s v = known _ (omega tests)
+sample-datum-fits : (least : ℕ) (d : SampleDatum) → ValidSampleDatum least d → Narrow 16 (sampleDatumWord d)
+sample-datum-fits least d v = omega tests
+
+group-fits : (g : Group) → ValidGroup g → Fit 16 (groupWords g)
+group-fits g v = word (sampleHeadWord (g .head)) (omega tests) (item-words above sampleDatumWord sample-datum-fits 0 (g .energies) (v .1))
 
 tag-fits : (k : Opaque) → Narrow 16 (tag (opaque k))
 tag-fits focalPlaneTime = tt
@@ -62,7 +65,7 @@ packet-fits timeOfFlight xs v = frame (tag timeOfFlight) tt (data-fit flightTime
 packet-fits scintillator xs v = frame (tag scintillator) tt (items pairChannels pairWords pair-fits [] xs v)
 packet-fits ionChamber xs v = frame (tag ionChamber) tt (frame energiesTag tt (data-fit energy16 (omega arith) xs v))
 packet-fits crdc c v =
-    let samples = items alone sampleWords (λ u. sample-fits) tt (c .samples .samples) (all-goods _ alone tt (c .samples .samples) (v .2)) in
+    let samples = items alone groupWords (λ u. group-fits) tt (c .samples .groups) (all-goods _ alone tt (c .samples .groups) (v .2)) in
     frame (tag crdc) tt (word (c .id) (omega tests)
     (joined (frame samplesTag tt (word (c .samples .threshold) (v .1 .0) samples)) (frame anodeTag tt (known (anodeWords (c .anode)) (v .3)))))
 packet-fits hodoscope (energies id xs) v = frame (tag hodoscope) tt (word id (omega tests) (data-fit energy16 (omega arith) xs (v .1)))

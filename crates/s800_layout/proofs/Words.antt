@@ -4,21 +4,22 @@ use Prim.Native.Nat.{ℕ, _+_, _-_, _/_, _%_, _^_, _≤_}
 use native.Mathlib.Omega.{arith}
 use mathlib.Core.Path.{_≡_, refl, ap, sym, subst}
 use mathlib.Core.Bool.{Bool, true, false}
-use mathlib.Core.List.{List, [], _∷_, map}
+use mathlib.Core.List.{List, [], _∷_, _++_, map}
 use lib.Dec.{T, ltb, leb, eqb, ltb→lt, leb→le}
 use lib.ListN.{length, length-append}
 use lib.Pow.{high, low}
-use borrow.Author.Tests.{eqb-true, eqb-false, lt-ltb, le-leb}
-use Rattle.event.specs.Parser.{Parser, Passed, ended, _>>=_, give, All}
+use borrow.Author.Tests.{eqb-true, eqb-false, lt-ltb, le-leb, lt-leb}
+use Rattle.event.specs.Parser.{Parser, Passed, ended, _>>=_, give, All, several, each}
 use Rattle.event.specs.Words.{belowChecks}
-use Rattle.event.proofs.Codes.{Codes, any, At, true-T, same, less, codes-here, codes-require, codes-within, codes-cond}
+use Rattle.event.proofs.Codes.{Codes, any, At, true-T, same, less, codes-here, codes-require, codes-within, codes-cond, codes-checked}
 use Rattle.event.proofs.Sequences.{codes-bind, codes-map, codes-image}
 use Rattle.event.proofs.Many.{codes-many}
-use Rattle.event.proofs.Elements.{codes-layout, codes-exactly, codes-any, codes-below, prints-map, prints-each, codes-several, each-alone}
-use Rattle.s800_layout.specs.Event.{Datum, Trigger, Pair, SampleHead, SampleDatum, Sample, Samples, Anode, Crdc, Registers, Hodoscope, energies, hits, Adc, Form, trigger, timeOfFlight, scintillator, ionChamber, crdc, hodoscope, objectPin, vmeAdc, opaque, Content, Packet, Stamp, Number, stampTag, numberTag, energiesTag, samplesTag, anodeTag, tag, formOf, idOf, patternBound, ChannelFormat, triggerTime, flightTime, pairEnergy, energy16, adcEnergy}
-use Rattle.s800_layout.specs.Layout.{framed, channelWord, datumWord, pairWords, sampleHeadWord, sampleDatumWord, sampleWords, samplesWords, anodeWords, registerWords, contentWords, packetWords, stampWords, numberWords, stampChecks, numberChecks, idChecks, datumChecks, sampleHeadChecks, sampleDatumChecks, sampleChecks, anodeChecks, registerChecks, channels, pairChannels, ValidDatum, ValidData, ValidPair, ValidContent}
-use Rattle.s800_layout.specs.Reading.{allowedLength, packetOf, inner, whole, idWord, datumOf, datum, channelWords, pair, sampleHeadOf, sampleDatumOf, sample, samples, anode, registers, hitsContent, energiesContent, content, packet, stampPacket, numberPacket}
+use Rattle.event.proofs.Elements.{codes-layout, codes-exactly, codes-any, codes-below, prints-map, prints-each, codes-several, each-alone, codes-several-at}
+use Rattle.s800_layout.specs.Event.{Datum, Trigger, Pair, SampleHead, SampleDatum, Samples, Anode, Crdc, Registers, Hodoscope, energies, hits, Adc, Form, trigger, timeOfFlight, scintillator, ionChamber, crdc, hodoscope, objectPin, vmeAdc, opaque, Content, Packet, Stamp, Number, stampTag, numberTag, energiesTag, samplesTag, anodeTag, tag, formOf, idOf, patternBound, ChannelFormat, triggerTime, flightTime, pairEnergy, energy16, adcEnergy, Group}
+use Rattle.s800_layout.specs.Layout.{framed, channelWord, datumWord, pairWords, sampleHeadWord, sampleDatumWord, samplesWords, anodeWords, registerWords, contentWords, packetWords, stampWords, numberWords, stampChecks, numberChecks, idChecks, datumChecks, sampleHeadChecks, sampleDatumChecks, anodeChecks, registerChecks, channels, pairChannels, ValidDatum, ValidData, ValidPair, ValidContent, groupWords, above, ValidSampleDatum, hasData, ValidGroup}
+use Rattle.s800_layout.specs.Reading.{allowedLength, packetOf, inner, whole, idWord, datumOf, datum, channelWords, pair, sampleHeadOf, sampleDatumOf, samples, anode, registers, hitsContent, energiesContent, content, packet, stampPacket, numberPacket, sampleDatum, atHead, group}
 use Rattle.s800_layout.proofs.Lengths.{length-allowed, form-back}
+use Rattle.s800_layout.proofs.Groups.{codes-grouped}
 
 -- a packet: its form is a part of its value; its length and content fit each other
 module _ {F A : Type 0} {tagWord : Parser ℕ F} {content : F → ℕ → ℕ → Parser ℕ A} {tagOf : F → ℕ} {body : A → List ℕ} {Good : ℕ → A → Type 0}
@@ -69,28 +70,43 @@ codes-pair seen = same
     (λ e x g. ap (λ (y : Pair). y .energy) (g .1)))
     (λ x g. (g .0, g .1 .0)) (λ x g. (g .0, (g .1, refl))) (λ x g. refl)
 
-pub codes-sample : Codes any sample sampleWords (λ s. Passed (sampleChecks 0 s))
-codes-sample = same
-    (codes-bind (λ s. s .head) (codes-layout 10 sampleHeadOf sampleHeadWord (sampleHeadChecks 10) head) (λ h g.
-    codes-map _ (λ s. s .datum) (codes-layout 10 sampleDatumOf sampleDatumWord (sampleDatumChecks 10) second) (λ d. refl))
-    (λ h s g. ap (λ (y : Sample). y .head) (g .1)))
-    (λ s g. search) (λ s g. search) (λ s g. refl)
-  where
-    head : (h : SampleHead) → Passed (sampleHeadChecks 0 h) → sampleHeadOf (sampleHeadWord h) ≡ h
-    head h p =
-        let s : sampleHeadWord h / 64 % 512 ≡ h .sample = omega (arith, ltb→lt) in
-        let c : sampleHeadWord h % 64 ≡ h .channel = omega (arith, ltb→lt) in
-        λ i. record { sample = s i; channel = c i }
+head-back : (h : SampleHead) → Passed (sampleHeadChecks 0 h) → sampleHeadOf (sampleHeadWord h) ≡ h
+head-back h p =
+    let s : sampleHeadWord h / 64 % 512 ≡ h .sample = omega (arith, ltb→lt) in
+    let c : sampleHeadWord h % 64 ≡ h .channel = omega (arith, ltb→lt) in
+    λ i. record { sample = s i; channel = c i }
 
-    second : (d : SampleDatum) → Passed (sampleDatumChecks 0 d) → sampleDatumOf (sampleDatumWord d) ≡ d
-    second d p =
+pub codes-sample-datum : (least : ℕ) → Codes any (sampleDatum least) (λ d. sampleDatumWord d ∷ []) (ValidSampleDatum least)
+codes-sample-datum least = codes-layout 10 sampleDatumOf sampleDatumWord (sampleDatumChecks 10 least) back
+  where
+    back : (d : SampleDatum) → ValidSampleDatum least d → sampleDatumOf (sampleDatumWord d) ≡ d
+    back d p =
         let c : sampleDatumWord d / 1024 ≡ d .connector = omega (arith, ltb→lt) in
         let e : sampleDatumWord d % 1024 ≡ d .energy = omega (arith, ltb→lt) in
         λ i. record { connector = c i; energy = e i }
 
-codes-samples : Codes (At ended) samples samplesWords (λ s. Passed (belowChecks 0 (2 ^ 16) (s .threshold)) × All (λ x. Passed (sampleChecks 0 x)) (s .samples))
+-- a data word is no head
+pub no-head : (least : ℕ) (d : SampleDatum) → ValidSampleDatum least d → (r : List ℕ) → atHead (sampleDatumWord d ∷ r) ≡ false
+no-head least d g r = lt-leb (2 ^ 15) (sampleDatumWord d) (omega (arith, ltb→lt (d .connector) 4 (g .0), ltb→lt (d .energy) 1024 (g .1 .0)))
+
+pub codes-group : Codes (At atHead) group groupWords ValidGroup
+codes-group = codes-here λ p. codes-grouped sampleHeadWord (λ h. sampleDatumWord) atHead
+    (codes-layout 10 sampleHeadOf sampleHeadWord (sampleHeadChecks 10) head-back) (λ h g. codes-sample-datum) (codes-checked hasData 10 p) (λ h. no-head) refl
+
+-- a group may follow a group, and so may the end
+pub group-again : (x : Group) → ValidGroup x → (r : List ℕ) → T (atHead (groupWords x ++ r))
+group-again x g r = true-T (leb (2 ^ 15) (sampleHeadWord (x .head))) (le-leb (2 ^ 15) (sampleHeadWord (x .head)) (omega arith))
+
+pub group-last : (r : List ℕ) → T (ended r) → T (atHead r)
+group-last [] t = tt
+group-last (w ∷ r) t = absurd t
+
+pub codes-groups : Codes (At ended) (several group ended) (each groupWords) (All ValidGroup)
+codes-groups = codes-several-at ended codes-group group-again group-last (λ s g r. refl) refl
+
+codes-samples : Codes (At ended) samples samplesWords (λ s. Passed (belowChecks 0 (2 ^ 16) (s .threshold)) × All ValidGroup (s .groups))
 codes-samples = same
-    (codes-bind (λ s. s .threshold) codes-whole (λ t g. codes-map _ (λ s. s .samples) (codes-several ended codes-sample (λ s g r. refl) refl) (λ xs. refl))
+    (codes-bind (λ s. s .threshold) codes-whole (λ t g. codes-map _ (λ s. s .groups) codes-groups (λ xs. refl))
     (λ t s g. ap (λ (y : Samples). y .threshold) (g .1)))
     (λ s g. (g .0, g .1 .0)) (λ s g. (g .0, (g .1, refl))) (λ s g. refl)
 

@@ -12,19 +12,24 @@ use Rattle.event.specs.Parser.{ended, alone}
 use Rattle.event.specs.Outcome.{refused}
 use Rattle.event.specs.Writing.{RefusedAt}
 use Rattle.event.specs.Writing.{atKind}
-use Rattle.event.proofs.Refusals.{either, keeps-give, keeps-left, keeps-bind, keeps-map, keeps-next}
+use Rattle.event.proofs.Refusals.{either, keeps-give, keeps-left, keeps-bind, keeps-map, keeps-next, keeps-checked}
 use Rattle.event.proofs.WritingRefusals.{Writes, Takes, takes-row, writes-many, writing-refused}
 use Rattle.s800_layout.specs.Event.{Form, trigger, timeOfFlight, scintillator, ionChamber, crdc, hodoscope, objectPin, vmeAdc, opaque, hitsId, ChannelFormat, triggerTime, flightTime, energy16, adcEnergy}
-use Rattle.s800_layout.specs.Layout.{words, largestEvent, channels, pairChannels}
-use Rattle.s800_layout.specs.Writing.{atPacket, datumBelow, datum, channelRows, pair, sample, samples, content, packet, stampPacket, numberPacket, eventRowsUpTo, writing}
+use Rattle.s800_layout.specs.Layout.{words, largestEvent, channels, pairChannels, above, hasData}
+use Rattle.s800_layout.specs.Writing.{atPacket, datumBelow, datum, channelRows, pair, samples, content, packet, stampPacket, numberPacket, eventRowsUpTo, writing, sampleDatum, afterData, group}
 
 module _ {count : ℕ} where
   writes-channels : (kind base : ℕ) (f : ChannelFormat) (s : List Row) → Writes count s (channelRows kind base f)
   writes-channels kind base f = writes-many (datum kind base f) channels atPacket tt (λ seen s. takes-row (omega arith)) []
 
+  takes-group : (s : List Row) → Takes count s group
+  takes-group s = keeps-next (omega arith) λ h r e. keeps-bind
+      (writes-many (sampleDatum h) above afterData tt (λ least s. takes-row (omega arith)) 0 r)
+      (λ xs r₁ l. keeps-left (keeps-checked hasData 21 (record { head = h; energies = xs }) tt (omega arith)) (λ r₂ e₂. omega arith))
+
   takes-samples : (s : List Row) → Takes count s samples
   takes-samples s = keeps-next (omega arith) λ t r e. keeps-left
-      (keeps-map _ (writes-many (λ u. sample) alone (atKind 9) tt (λ u s. takes-row (omega arith)) tt r))
+      (keeps-map _ (writes-many (λ u. group) alone (atKind 9) tt (λ u s. takes-group s) tt r))
       (λ r₁ l. omega arith)
 
   writes-content : (f : Form) (id : ℕ) (s : List Row) → Writes count s (content f id)

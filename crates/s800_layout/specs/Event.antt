@@ -18,7 +18,7 @@ pub record Pair : Type 0 where
   pub energy : Datum
   pub time : ℕ
 
--- one sample of a CRDC pad: its first word and its second
+-- of a CRDC: a sample word, and a data word of one connector that saw charge
 pub record SampleHead : Type 0 where
   pub sample : ℕ
   pub channel : ℕ
@@ -27,14 +27,15 @@ pub record SampleDatum : Type 0 where
   pub connector : ℕ
   pub energy : ℕ
 
-pub record Sample : Type 0 where
+-- a group: its head, which is a sample word, and its data words, one to four (document 02, #103)
+pub record Group : Type 0 where
   pub head : SampleHead
-  pub datum : SampleDatum
+  pub energies : List SampleDatum
 
 -- the two inner packets of a CRDC
 pub record Samples : Type 0 where
   pub threshold : ℕ
-  pub samples : List Sample
+  pub groups : List Group
 
 pub record Anode : Type 0 where
   pub energy : ℕ

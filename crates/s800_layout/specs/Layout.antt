@@ -1,17 +1,18 @@
 -- Dialect S: the words and the rows of an event, and the rules that a valid one keeps (document 01).
 -- Assumes nothing.
-use Prim.Native.Nat.{ℕ, _+_, _*_, _/_, _%_, _^_}
+use Prim.Native.Nat.{ℕ, suc, _+_, _*_, _/_, _%_, _^_}
+use mathlib.Core.Bool.{Bool, not}
 use mathlib.Core.List.{List, [], _∷_, _++_, map}
 use lib.Dec.{T, ltb, leb}
 use lib.ListN.{length}
 use Rattle.event.specs.declared.Row.{Row}
 use Rattle.event.specs.declared.StampOrder.{StampOrder}
 use Rattle.event.specs.declared.StampOrder.the-variants.{Crossed, Rising}
-use Rattle.event.specs.Parser.{Test, test, Passed, Goods, All, each, fresh, member}
+use Rattle.event.specs.Parser.{Test, test, Passed, Goods, All, each, ended, fresh, member}
 use Rattle.event.specs.Words.{halves, belowChecks}
 use Rattle.event.specs.Rows.{row}
 use Rattle.event.specs.Demands.{Sized}
-use Rattle.s800_layout.specs.Event.{Datum, Pair, SampleHead, SampleDatum, Sample, Samples, Anode, Registers, energies, hits, Form, trigger, timeOfFlight, scintillator, ionChamber, crdc, hodoscope, objectPin, vmeAdc, opaque, Content, Packet, Run, end, plain, Stamp, Number, Event, eventTag, stampTag, numberTag, energiesTag, samplesTag, anodeTag, tag, hitsId, largestId, idOf, patternBound, ChannelFormat, triggerTime, flightTime, pairEnergy, energy16, adcEnergy}
+use Rattle.s800_layout.specs.Event.{Datum, Pair, SampleHead, SampleDatum, Group, Samples, Anode, Registers, energies, hits, Form, trigger, timeOfFlight, scintillator, ionChamber, crdc, hodoscope, objectPin, vmeAdc, opaque, Content, Packet, Run, end, plain, Stamp, Number, Event, eventTag, stampTag, numberTag, energiesTag, samplesTag, anodeTag, tag, hitsId, largestId, idOf, patternBound, ChannelFormat, triggerTime, flightTime, pairEnergy, energy16, adcEnergy}
 
 -- Words.
 
@@ -28,19 +29,19 @@ datumWord f d = channelWord f (d .channel) (d .value)
 abbrev pub pairWords : Pair → List ℕ
 pairWords x = datumWord pairEnergy (x .energy) ∷ channelWord pairEnergy (x .energy .channel) (x .time) ∷ []
 
--- bit 15 set, sample in bits 14-6, channel in bits 5-0
+-- a head: bit 15 set, sample in bits 14-6, channel in bits 5-0
 abbrev pub sampleHeadWord : SampleHead → ℕ
 sampleHeadWord h = 2 ^ 15 + h .sample * 2 ^ 6 + h .channel
 
--- bits 15-12 zero, connector in bits 11-10, energy in bits 9-0
+-- a data word: bits 15-12 zero, connector in bits 11-10, energy in bits 9-0
 abbrev pub sampleDatumWord : SampleDatum → ℕ
 sampleDatumWord d = d .connector * 2 ^ 10 + d .energy
 
-abbrev pub sampleWords : Sample → List ℕ
-sampleWords s = sampleHeadWord (s .head) ∷ sampleDatumWord (s .datum) ∷ []
+abbrev pub groupWords : Group → List ℕ
+groupWords g = sampleHeadWord (g .head) ∷ map sampleDatumWord (g .energies)
 
 abbrev pub samplesWords : Samples → List ℕ
-samplesWords s = s .threshold ∷ each sampleWords (s .samples)
+samplesWords s = s .threshold ∷ each groupWords (s .groups)
 
 abbrev pub anodeWords : Anode → List ℕ
 anodeWords a = a .energy ∷ a .time ∷ []
@@ -119,15 +120,18 @@ pairRows x = datumRow 6 0 (x .energy) ∷ row 5 0 (x .energy .channel) (x .time)
 abbrev pub pad : (channel connector : ℕ) → ℕ
 pad channel connector = channel + 64 * connector
 
--- the channel and the connector of a pad
-abbrev pub padChannel : ℕ → ℕ
-padChannel p = p % 64
-
+-- the connector of a pad
 abbrev pub padConnector : ℕ → ℕ
 padConnector p = p / 64
 
-abbrev pub sampleRow : Sample → Row
-sampleRow s = row 8 (s .head .sample) (pad (s .head .channel) (s .datum .connector)) (s .datum .energy)
+abbrev pub sampleHeadRow : SampleHead → Row
+sampleHeadRow h = row 8 (h .sample) (h .channel) 0
+
+abbrev pub sampleDatumRow : SampleHead → SampleDatum → Row
+sampleDatumRow h d = row 12 (h .sample) (pad (h .channel) (d .connector)) (d .energy)
+
+abbrev pub groupRows : Group → List Row
+groupRows g = sampleHeadRow (g .head) ∷ map (sampleDatumRow (g .head)) (g .energies)
 
 abbrev pub anodeRow : Anode → Row
 anodeRow a = row 9 0 (a .energy) (a .time)
@@ -140,7 +144,7 @@ contentRows trigger c = row 4 0 0 (c .pattern) ∷ map (datumRow 5 0) (c .times)
 contentRows timeOfFlight xs = map (datumRow 5 0) xs
 contentRows scintillator xs = each pairRows xs
 contentRows ionChamber xs = map (datumRow 6 0) xs
-contentRows crdc c = row 7 0 0 (c .samples .threshold) ∷ (map sampleRow (c .samples .samples) ++ (anodeRow (c .anode) ∷ []))
+contentRows crdc c = row 7 0 0 (c .samples .threshold) ∷ (each groupRows (c .samples .groups) ++ (anodeRow (c .anode) ∷ []))
 contentRows hodoscope (energies id xs) = map (datumRow 6 (hodoscopeBase id)) xs
 contentRows hodoscope (hits h) = registerRow h ∷ []
 contentRows objectPin d = datumRow 6 0 d ∷ []
@@ -174,11 +178,22 @@ datumChecks n m f seen d = test n (member (d .channel) (f .allowed)) ∷ test n 
 abbrev pub sampleHeadChecks : ℕ → SampleHead → List Test
 sampleHeadChecks n h = test n (ltb (h .sample) (2 ^ 9)) ∷ test n (ltb (h .channel) (2 ^ 6)) ∷ []
 
-abbrev pub sampleDatumChecks : ℕ → SampleDatum → List Test
-sampleDatumChecks n d = test n (ltb (d .connector) (2 ^ 2)) ∷ test n (ltb (d .energy) (2 ^ 10)) ∷ []
+-- the connectors of a group rise: the state `least` is one more than the connector before, 0 at first
+abbrev pub sampleDatumChecks : ℕ → (least : ℕ) → SampleDatum → List Test
+sampleDatumChecks n least d = test n (ltb (d .connector) (2 ^ 2)) ∷ test n (ltb (d .energy) (2 ^ 10)) ∷ test n (leb least (d .connector)) ∷ []
 
-abbrev pub sampleChecks : ℕ → Sample → List Test
-sampleChecks n s = sampleHeadChecks n (s .head) ++ sampleDatumChecks n (s .datum)
+abbrev pub above : ℕ → SampleDatum → ℕ
+above least d = suc (d .connector)
+
+abbrev pub ValidSampleDatum : ℕ → SampleDatum → Type 0
+ValidSampleDatum least d = Passed (sampleDatumChecks 0 least d)
+
+-- one data word at least (that there are at most four follows: proofs/Lengths)
+abbrev pub hasData : Group → Bool
+hasData g = not (ended (g .energies))
+
+abbrev pub ValidGroup : Group → Type 0
+ValidGroup g = Passed (sampleHeadChecks 0 (g .head)) × Goods ValidSampleDatum above 0 (g .energies) × T (hasData g)
 
 abbrev pub anodeChecks : ℕ → Anode → List Test
 anodeChecks n a = test n (ltb (a .energy) (2 ^ 16)) ∷ test n (ltb (a .time) (2 ^ 16)) ∷ []
@@ -209,7 +224,7 @@ ValidContent scintillator xs = Goods ValidPair pairChannels [] xs
 ValidContent ionChamber xs = ValidData energy16 xs
 ValidContent crdc c =
     Passed (idChecks 0 crdc (c .id)) × Passed (belowChecks 0 (2 ^ 16) (c .samples .threshold)) ×
-    All (λ s. Passed (sampleChecks 0 s)) (c .samples .samples) × Passed (anodeChecks 0 (c .anode))
+    All ValidGroup (c .samples .groups) × Passed (anodeChecks 0 (c .anode))
 ValidContent hodoscope (energies id xs) = T (ltb id hitsId) × ValidData energy16 xs
 ValidContent hodoscope (hits h) = Passed (registerChecks 0 h)
 ValidContent objectPin d = ValidDatum energy16 [] d

@@ -3,17 +3,17 @@
 -- wide as its bits, that a word with fields in all its bits is the one they print; that an inner packet of the right length fits.)
 -- Assumes nothing.
 use Prim.Native.Nat.{ℕ, _-_, _/_, _%_, _^_}
-use mathlib.Core.Bool.{Bool, cond, _&&_}
-use mathlib.Core.List.{List, []}
+use mathlib.Core.Bool.{Bool, true, cond, _&&_}
+use mathlib.Core.List.{List, [], _∷_}
 use lib.Dec.{leb, eqb}
 use lib.ListN.{length}
 use Rattle.event.specs.declared.Row.{Row}
 use Rattle.event.specs.declared.StampOrder.{StampOrder}
-use Rattle.event.specs.Parser.{Parser, ended, _>>=_, _>>_, give, here, require, within, many, several}
+use Rattle.event.specs.Parser.{Parser, ended, _>>=_, _>>_, give, here, require, within, checked, many, several}
 use Rattle.event.specs.Words.{layout, exactly, anyWord, between, belowChecks, wordBelow}
 use Rattle.event.specs.Outcome.{Outcome, done, outcome}
-use Rattle.s800_layout.specs.Event.{Datum, Pair, SampleHead, SampleDatum, Sample, Samples, Anode, Registers, Hodoscope, energies, hits, Form, trigger, timeOfFlight, scintillator, ionChamber, crdc, hodoscope, objectPin, vmeAdc, opaque, Content, Packet, Run, runOf, Stamp, Number, Event, eventTag, stampTag, numberTag, energiesTag, samplesTag, anodeTag, tag, formOf, hitsId, patternBound, ChannelFormat, triggerTime, flightTime, pairEnergy, energy16, adcEnergy}
-use Rattle.s800_layout.specs.Layout.{channelWord, datumWord, sampleHeadWord, sampleDatumWord, version, rows, smallestEvent, largestEvent, idChecks, datumChecks, sampleHeadChecks, sampleDatumChecks, channels, pairChannels}
+use Rattle.s800_layout.specs.Event.{Datum, Pair, SampleHead, SampleDatum, Group, Samples, Anode, Registers, Hodoscope, energies, hits, Form, trigger, timeOfFlight, scintillator, ionChamber, crdc, hodoscope, objectPin, vmeAdc, opaque, Content, Packet, Run, runOf, Stamp, Number, Event, eventTag, stampTag, numberTag, energiesTag, samplesTag, anodeTag, tag, formOf, hitsId, patternBound, ChannelFormat, triggerTime, flightTime, pairEnergy, energy16, adcEnergy}
+use Rattle.s800_layout.specs.Layout.{channelWord, datumWord, sampleHeadWord, sampleDatumWord, version, rows, smallestEvent, largestEvent, idChecks, datumChecks, sampleHeadChecks, sampleDatumChecks, above, hasData, channels, pairChannels}
 
 abbrev pub even : ℕ → Bool
 even n = eqb (n % 2) 0
@@ -24,7 +24,7 @@ allowedLength trigger n = between 3 7 n
 allowedLength timeOfFlight n = between 2 10 n
 allowedLength scintillator n = even n && between 2 14 n
 allowedLength ionChamber n = between 4 20 n
-allowedLength crdc n = even n && leb 10 n
+allowedLength crdc n = leb 10 n
 allowedLength hodoscope n = between 3 19 n
 allowedLength objectPin n = eqb n 3
 allowedLength vmeAdc n = between 3 11 n
@@ -83,17 +83,28 @@ sampleHeadOf w = record { sample = w / 2 ^ 6 % 2 ^ 9; channel = w % 2 ^ 6 }
 abbrev pub sampleDatumOf : ℕ → SampleDatum
 sampleDatumOf w = record { connector = w / 2 ^ 10; energy = w % 2 ^ 10 }
 
-abbrev pub sample : Parser ℕ Sample
-sample = do
+-- a word without bit 15 is a data word: 10 its bits 14-12, 10 a connector not above the one before
+abbrev pub sampleDatum : (least : ℕ) → Parser ℕ SampleDatum
+sampleDatum least = layout 10 sampleDatumOf sampleDatumWord (sampleDatumChecks 10 least)
+
+-- where a group's data words end: a word with bit 15, or the inner packet's end
+abbrev pub atHead : List ℕ → Bool
+atHead [] = true
+atHead (w ∷ r) = leb (2 ^ 15) w
+
+-- 10 at a data word with no head before it; 10 at a head with no data word after it
+abbrev pub group : Parser ℕ Group
+group = do
+  p ← here
   h ← layout 10 sampleHeadOf sampleHeadWord (sampleHeadChecks 10)
-  d ← layout 10 sampleDatumOf sampleDatumWord (sampleDatumChecks 10)
-  give (record { head = h; datum = d })
+  xs ← many sampleDatum above atHead 0
+  checked hasData 10 p (record { head = h; energies = xs })
 
 abbrev pub samples : Parser ℕ Samples
 samples = do
   t ← whole
-  xs ← several sample ended
-  give (record { threshold = t; samples = xs })
+  xs ← several group ended
+  give (record { threshold = t; groups = xs })
 
 abbrev pub anode : Parser ℕ Anode
 anode = do

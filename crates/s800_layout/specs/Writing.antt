@@ -1,20 +1,20 @@
 -- Writing one event of dialect S from its rows: its words, or the first refusal and its place. Each line is a rule, in the order of document 01.
 -- (A row's parser has its kind, its fields and their rules, each with its number: 21 for a row that may not stand there and for rows that end, 22 for its fields. Some
--- tests never fail on 32-bit fields, and stand here because the same tables serve `Valid`: that a chunk of a stamp, or a low one of an event number, is below 2 ^ 16, a pad's channel below 2 ^ 6.)
+-- tests never fail on 32-bit fields, and stand here because the same tables serve `Valid`: that a chunk of a stamp, or a low one of an event number, is below 2 ^ 16.)
 -- Assumes nothing.
 use Prim.Native.Nat.{ℕ, _-_, _/_, _%_, _^_}
-use mathlib.Core.Bool.{Bool, true, cond, _&&_}
+use mathlib.Core.Bool.{Bool, true, cond, _&&_, not}
 use mathlib.Core.List.{List, [], _∷_}
 use lib.Dec.{eqb}
 use Rattle.event.specs.declared.Row.{Row}
 use Rattle.event.specs.declared.StampOrder.{StampOrder}
-use Rattle.event.specs.Parser.{Parser, ended, _>>=_, _>>_, give, many, several}
+use Rattle.event.specs.Parser.{Parser, ended, _>>=_, _>>_, give, here, checked, many, several}
 use Rattle.event.specs.Words.{belowChecks}
 use Rattle.event.specs.Rows.{row}
 use Rattle.event.specs.Outcome.{Outcome}
 use Rattle.event.specs.Writing.{rowWith, ofKind, atKind, writingBy}
-use Rattle.s800_layout.specs.Event.{Datum, Pair, Sample, Samples, Anode, Registers, Hodoscope, energies, hits, Form, trigger, timeOfFlight, scintillator, ionChamber, crdc, hodoscope, objectPin, vmeAdc, opaque, Content, Packet, Stamp, Number, Event, stampTag, numberTag, tag, formOf, hitsId, patternBound, ChannelFormat, triggerTime, flightTime, pairEnergy, energy16, adcEnergy}
-use Rattle.s800_layout.specs.Layout.{words, lowestFirst, packetRow, stampRow, numberRow, datumRow, hodoscopeBase, adcBase, padChannel, padConnector, sampleRow, registerRow, anodeRow, largestEvent, stampChecks, numberChecks, idChecks, datumChecks, sampleChecks, anodeChecks, registerChecks, channels, pairChannels}
+use Rattle.s800_layout.specs.Event.{Datum, Pair, SampleHead, SampleDatum, Group, Samples, Anode, Registers, Hodoscope, energies, hits, Form, trigger, timeOfFlight, scintillator, ionChamber, crdc, hodoscope, objectPin, vmeAdc, opaque, Content, Packet, Stamp, Number, Event, stampTag, numberTag, tag, formOf, hitsId, patternBound, ChannelFormat, triggerTime, flightTime, pairEnergy, energy16, adcEnergy}
+use Rattle.s800_layout.specs.Layout.{words, lowestFirst, packetRow, stampRow, numberRow, datumRow, hodoscopeBase, adcBase, padConnector, sampleHeadRow, sampleDatumRow, registerRow, anodeRow, largestEvent, stampChecks, numberChecks, idChecks, datumChecks, sampleHeadChecks, sampleDatumChecks, above, hasData, anodeChecks, registerChecks, channels, pairChannels}
 use Rattle.s800_layout.specs.Reading.{runUpTo, eventOf}
 
 -- a packet's own row, of kind 1, with the tag t
@@ -51,22 +51,35 @@ pair seen = do
   t ← datumBelow 5 (e .channel) (2 ^ pairEnergy .bits)
   give (record { energy = e; time = t })
 
--- the pad taken apart
-abbrev pub sampleOf : Row → Sample
-sampleOf r = record {
-  head = record { sample = r .unit; channel = padChannel (r .channel) };
-  datum = record { connector = padConnector (r .channel); energy = r .datum };
-}
+abbrev pub sampleHeadOf : Row → SampleHead
+sampleHeadOf r = record { sample = r .unit; channel = r .channel }
 
-abbrev pub sample : Parser Row Sample
-sample = rowWith (ofKind 8) sampleOf sampleRow (sampleChecks 22)
+abbrev pub sampleDatumOf : Row → SampleDatum
+sampleDatumOf r = record { connector = padConnector (r .channel); energy = r .datum }
 
--- a threshold, then samples up to the anode
+-- under its head: 22 also where its sample, or its pad's channel, is not the head's, or its connector is not above the one before
+abbrev pub sampleDatum : SampleHead → (least : ℕ) → Parser Row SampleDatum
+sampleDatum h least = rowWith (ofKind 12) sampleDatumOf (sampleDatumRow h) (sampleDatumChecks 22 least)
+
+-- where a group's rows of kind 12 end
+abbrev pub afterData : List Row → Bool
+afterData [] = true
+afterData (r ∷ rs) = not (ofKind 12 r)
+
+-- a head; 21 at the row after it where that is none of kind 12
+abbrev pub group : Parser Row Group
+group = do
+  h ← rowWith (ofKind 8) sampleHeadOf sampleHeadRow (sampleHeadChecks 22)
+  xs ← many (sampleDatum h) above afterData 0
+  k ← here
+  checked hasData 21 k (record { head = h; energies = xs })
+
+-- a threshold, then groups up to the anode
 abbrev pub samples : Parser Row Samples
 samples = do
   t ← datumBelow 7 0 (2 ^ 16)
-  xs ← several sample (atKind 9)
-  give (record { threshold = t; samples = xs })
+  xs ← several group (atKind 9)
+  give (record { threshold = t; groups = xs })
 
 abbrev pub anodeOf : Row → Anode
 anodeOf r = record { energy = r .channel; time = r .datum }

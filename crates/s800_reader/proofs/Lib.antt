@@ -1,5 +1,8 @@
 pub mod Channels
 pub mod Runs
+pub mod GroupWords
+pub mod GroupTurns
+pub mod GroupRows
 pub mod Inner
 pub mod Opening
 pub mod ChannelPackets

@@ -21,13 +21,13 @@ use Rattle.event.proofs.Ends.{ends-many}
 use Rattle.event.proofs.Leads.{leads-part, then-then, refused-scan, scanned-refuse, store-append}
 use Rattle.event.proofs.Loops.{at-end}
 use Rattle.event.proofs.Impossible.{impossible}
-use Rattle.s800_layout.specs.Event.{Sample, Samples, Crdc, Opaque, Form, scintillator, crdc, opaque, Packet, samplesTag, anodeTag, tag}
-use Rattle.s800_layout.specs.Layout.{pairRows, pairChannels, sampleRow, packetRow, packetRows}
-use Rattle.s800_layout.specs.Reading.{even, allowedLength, inner, whole, pair, sample, samples, anode}
-use Rattle.s800_layout.proofs.Words.{codes-sample}
+use Rattle.s800_layout.specs.Event.{Group, Samples, Crdc, Opaque, Form, scintillator, crdc, opaque, Packet, samplesTag, anodeTag, tag}
+use Rattle.s800_layout.specs.Layout.{pairRows, pairChannels, groupRows, packetRow, packetRows}
+use Rattle.s800_layout.specs.Reading.{even, allowedLength, inner, whole, pair, group, samples, anode}
+use Rattle.s800_layout.proofs.Words.{codes-groups}
 use Rattle.s800_reader.specs.declared.Opened.{Opened}
 use Rattle.s800_reader.specs.declared.Opened.the-variants as opened
-use Rattle.s800_reader.specs.Channel.{opaqueRows, sampleRows, anodeRows, NoMore}
+use Rattle.s800_reader.specs.Channel.{opaqueRows, anodeRows, NoMore}
 use Rattle.s800_reader.specs.Opening.{PacketAt, CrdcHead, crdcHeadRows, openedOf, restOf, OpensAs}
 use Rattle.s800_reader.proofs.Inner.{inner-length, inner-tag, inner-read}
 use Rattle.s800_reader.proofs.Runs.{read-whole}
@@ -102,15 +102,8 @@ module _ (ws : List ℕ) (i k : ℕ) (b : List ℕ) (long : i + 4 ≤ length ws)
         (rw r (record { answered = refl; stored = s }), omega arith)
 
 -- the head of a CRDC's packet
-pub odd-crdc : (n : ℕ) → n % 2 ≡ 1 → allowedLength crdc n ≡ false
-odd-crdc n h = rw (odd n h)
-
 pub short-crdc : (n : ℕ) → n < 10 → allowedLength crdc n ≡ false
-short-crdc n h = go (even n)
-  where
-    go : (a : Bool) → a && leb 10 n ≡ false
-    go true = lt-leb 10 n h
-    go false = refl
+short-crdc n h = lt-leb 10 n h
 
 abbrev packed : Result ℕ Crdc → Result ℕ Packet
 packed x = then (λ c. give (record { form = crdc; content = c })) x
@@ -119,12 +112,12 @@ abbrev afterSamples : ℕ → Samples → Parser ℕ Crdc
 afterSamples id xs = inner 4 anodeTag anode >>= λ a. give (record { id = id; samples = xs; anode = a })
 
 -- the samples of a CRDC's packet
-abbrev samplesFrom : List ℕ → (start n : ℕ) → Result ℕ (List Sample)
-samplesFrom ws start n = several sample ended (start + 6) (slice (start + 6) (start + n - 4) ws)
+abbrev samplesFrom : List ℕ → (start n : ℕ) → Result ℕ (List Group)
+samplesFrom ws start n = several group ended (start + 6) (slice (start + 6) (start + n - 4) ws)
 
-module _ {ws : List ℕ} {start n k : ℕ} (s : PacketAt ws start n k) (parity : n % 2 ≡ 1 → ⊥) (least : 10 ≤ n) {id : ℕ} (a : id ≡ getD ws (start + 2) 0) where
+module _ {ws : List ℕ} {start n k : ℕ} (s : PacketAt ws start n k) (least : 10 ≤ n) {id : ℕ} (a : id ≡ getD ws (start + 2) 0) where
   allowed : allowedLength crdc n ≡ true
-  allowed = rw (eq-eqb (n % 2) 0 (omega arith), le-leb 10 n least)
+  allowed = le-leb 10 n least
 
   pub crdc-id : {b after : List ℕ} {r : Opened} → 1 < id → r ≡ opened.Refused 8 (start + 2) → OpensAs crdc ws start n k b after r
   crdc-id h q = opens-refused crdc q (rw (allowed, first-word s (omega arith) a, eq-eqb id id refl, lt-leb id 1 h))
@@ -150,7 +143,7 @@ module _ {ws : List ℕ} {start n k : ℕ} (s : PacketAt ws start n k) (parity :
           (id-read ∙ rw (inner-tag (n - 7) samplesTag samples (start + 3) (start + n) ws (omega arith) (omega arith) (s .inside) c l (rw four d) z, four))
 
       head-read : w ≡ samplesTag → getD ws (start + 5) 0 < 2 ^ 16
-          → restOf crdc ws start n ≡ packed (then (afterSamples id) (filled (slice (start + n - 4) (start + n) ws) (then (λ xs. give (record { threshold = getD ws (start + 5) 0; samples = xs })) (samplesFrom ws start n))))
+          → restOf crdc ws start n ≡ packed (then (afterSamples id) (filled (slice (start + n - 4) (start + n) ws) (then (λ xs. give (record { threshold = getD ws (start + 5) 0; groups = xs })) (samplesFrom ws start n))))
       head-read z f =
           let five : start + 3 + 2 ≡ start + 5 = omega arith in
           let six : start + 5 + 1 ≡ start + 6 = omega arith in
@@ -166,39 +159,39 @@ module _ {ws : List ℕ} {start n k : ℕ} (s : PacketAt ws start n k) (parity :
 -- the rest of it
 module _ {ws : List ℕ} {start n : ℕ} (h : CrdcHead ws start n) (long : start + n ≤ length ws) where
   head-passed : restOf crdc ws start n
-      ≡ packed (then (afterSamples (getD ws (start + 2) 0)) (filled (slice (start + n - 4) (start + n) ws) (then (λ xs. give (record { threshold = getD ws (start + 5) 0; samples = xs })) (samplesFrom ws start n))))
+      ≡ packed (then (afterSamples (getD ws (start + 2) 0)) (filled (slice (start + n - 4) (start + n) ws) (then (λ xs. give (record { threshold = getD ws (start + 5) 0; groups = xs })) (samplesFrom ws start n))))
   head-passed =
       let least = h .least in
-      head-read (record { two = omega arith; inside = long; few = le-refl start }) (λ o. omega (arith, h .even)) least refl (h .id) refl (h .samplesLength) refl (h .itsTag) (h .threshold)
+      head-read (record { two = omega arith; inside = long; few = le-refl start }) least refl (h .id) refl (h .samplesLength) refl (h .itsTag) (h .threshold)
 
   -- samples refused
-  pub crdc-refused : {k : ℕ} {b b₁ after : List ℕ} {a : Answer} {m p : ℕ} {r : Opened} → Scanned (each sampleRows) (samplesFrom ws start n) (k + 2) b₁ a after → a ≡ Refused m p
+  pub crdc-refused : {k : ℕ} {b b₁ after : List ℕ} {a : Answer} {m p : ℕ} {r : Opened} → Scanned (each groupRows) (samplesFrom ws start n) (k + 2) b₁ a after → a ≡ Refused m p
       → r ≡ openedOf (start + n) a → OpensAs crdc ws start n k b after r
   crdc-refused {m = m} {p = p} t q e =
-      let x : samplesFrom ws start n ≡ refuse m p = refused-scan (each sampleRows) (samplesFrom ws start n) (rw q at t) in
+      let x : samplesFrom ws start n ≡ refuse m p = refused-scan (each groupRows) (samplesFrom ws start n) (rw q at t) in
       opens-refused crdc (e ∙ ap (openedOf (start + n)) q) (head-passed ∙ rw x)
 
   -- samples read: the anode is left
-  sampled : (xs : List Sample) → samplesFrom ws start n ≡ ok xs (start + n - 4) [] → restOf crdc ws start n
-      ≡ then (λ a. give (record { form = crdc; content = record { id = getD ws (start + 2) 0; samples = record { threshold = getD ws (start + 5) 0; samples = xs }; anode = a } }))
+  sampled : (xs : List Group) → samplesFrom ws start n ≡ ok xs (start + n - 4) [] → restOf crdc ws start n
+      ≡ then (λ a. give (record { form = crdc; content = record { id = getD ws (start + 2) 0; samples = record { threshold = getD ws (start + 5) 0; groups = xs }; anode = a } }))
       (inner 4 anodeTag anode (start + n - 4) (slice (start + n - 4) (start + n) ws))
   sampled xs e = head-passed ∙ rw e (then-then (inner 4 anodeTag anode (start + n - 4) (slice (start + n - 4) (start + n) ws)) _ _)
 
-  anode-leads : {k k₁ : ℕ} {b b₁ b₂ : List ℕ} → b₁ ≡ storeRows b k (crdcHeadRows ws start) → (x : Result ℕ (List Sample)) → samplesFrom ws start n ≡ x → Scanned (each sampleRows) x (k + 2) b₁ (Accepted k₁) b₂
+  anode-leads : {k k₁ : ℕ} {b b₁ b₂ : List ℕ} → b₁ ≡ storeRows b k (crdcHeadRows ws start) → (x : Result ℕ (List Group)) → samplesFrom ws start n ≡ x → Scanned (each groupRows) x (k + 2) b₁ (Accepted k₁) b₂
       → Leads anodeRows (inner 4 anodeTag anode (start + n - 4) (slice (start + n - 4) (start + n) ws)) k₁ b₂ packetRows (restOf crdc ws start n) k b
   anode-leads q (refuse m p) e t = let f = t .answered in impossible cc
   anode-leads {k} {k₁} {b} {b₁} {b₂} q (ok xs j r) e t =
       let least = h .least in
-      let before = crdcHeadRows ws start ++ each sampleRows xs in
+      let before = crdcHeadRows ws start ++ each groupRows xs in
       let f = t .answered in
-      let p : k₁ ≡ k + length before = let c : k₁ ≡ k + 2 + length (each sampleRows xs) = cc in omega arith in
-      let u : b₂ ≡ storeRows b k before = t .stored ∙ rw q (sym (store-append storeRow b k (crdcHeadRows ws start) (each sampleRows xs))) in
-      let w = at-end (codes-several ended codes-sample (λ s g r. refl) refl) (ends-many ended (λ u. sample) alone tt) (start + 6) (start + n - 4) ws (omega arith) (omega arith) xs j r e in
+      let p : k₁ ≡ k + length before = let c : k₁ ≡ k + 2 + length (each groupRows xs) = cc in omega arith in
+      let u : b₂ ≡ storeRows b k before = t .stored ∙ rw q (sym (store-append storeRow b k (crdcHeadRows ws start) (each groupRows xs))) in
+      let w = at-end codes-groups (ends-many ended (λ u. group) alone tt) (start + 6) (start + n - 4) ws (omega arith) (omega arith) xs j r e in
       rw (p, u, sampled xs w) (leads-part before anodeRows (inner 4 anodeTag anode (start + n - 4) (slice (start + n - 4) (start + n) ws)) _ packetRows k b
-      (λ a. ap (λ (l : List Row). packetRow (tag crdc) (getD ws (start + 2) 0) ∷ row 7 0 0 (getD ws (start + 5) 0) ∷ (l ++ anodeRows a)) (sym (each-map sampleRow xs))))
+      (λ a. refl))
 
   pub crdc-whole : {k k₁ : ℕ} {b b₁ b₂ after : List ℕ} {s a : Answer} {r : Opened} → b₁ ≡ storeRows b k (crdcHeadRows ws start)
-      → Scanned (each sampleRows) (samplesFrom ws start n) (k + 2) b₁ s b₂ → s ≡ Accepted k₁
+      → Scanned (each groupRows) (samplesFrom ws start n) (k + 2) b₁ s b₂ → s ≡ Accepted k₁
       → Scanned anodeRows (inner 4 anodeTag anode (start + n - 4) (slice (start + n - 4) (start + n - 4 + 4) ws)) k₁ b₂ a after × NoMore (start + n - 4 + 4) a
       → r ≡ openedOf (start + n) a → OpensAs crdc ws start n k b after r
   crdc-whole {after = after} {a = a} q t e u v =

@@ -1,18 +1,16 @@
 -- The loops over content words that come in runs: one turn each, over plain values.
 -- Assumes nothing.
-use Prim.Native.Nat.{ℕ, suc, _+_, _*_, _/_, _%_, _^_, _≤_, _<_}
+use Prim.Native.Nat.{ℕ, suc, _+_, _/_, _%_, _^_, _≤_, _<_}
 use native.Mathlib.Omega.{arith}
 use native.Mathlib.Numerals.{add-one}
 use mathlib.Core.Path.{_≡_, refl, _∙_, subst}
-use mathlib.Core.Bool.{true, cond}
 use mathlib.Core.List.{List, [], _∷_}
-use lib.Dec.{eqb, ltb}
 use lib.ListN.{length, getD}
 use lib.Seq.{slice}
-use borrow.Author.Tests.{eq-eqb, ne-eqb, lt-ltb, le-ltb}
+use borrow.Author.Tests.{eq-eqb, ne-eqb, lt-ltb}
 use Rattle.event.specs.declared.Answer.{Answer}
 use Rattle.event.specs.declared.Answer.the-variants.{Refused}
-use Rattle.event.specs.Parser.{ok, refuse, then, ended, many, several, each, alone}
+use Rattle.event.specs.Parser.{ok, refuse, ended, many, each, alone}
 use Rattle.event.specs.Channels.{insert, Blocked}
 use Rattle.event.specs.Rows.{row, storeRow}
 use Rattle.event.specs.Scanning.{storeRows, Scanned}
@@ -21,10 +19,10 @@ use Rattle.event.proofs.ChannelTurns.{onFault}
 use Rattle.event.proofs.Turns.{Reached, at-two, read-below, step, stop}
 use Rattle.s800_format.proofs.Formats.{pairFormat, pair-format}
 use Rattle.s800_layout.specs.Event.{ChannelFormat, pairEnergy}
-use Rattle.s800_layout.specs.Layout.{channelWord, sampleHeadWord, sampleDatumWord, sampleRow, pairRows, pairChannels}
-use Rattle.s800_layout.specs.Reading.{whole, datumOf, datum, pair, sampleHeadOf, sampleDatumOf, sample}
-use Rattle.s800_layout.proofs.Words.{codes-whole, codes-pair, codes-sample}
-use Rattle.s800_reader.specs.Channel.{faultOf, opaqueRows, sampleRows, sampleOf, pairOf}
+use Rattle.s800_layout.specs.Layout.{channelWord, pairRows, pairChannels}
+use Rattle.s800_layout.specs.Reading.{whole, datumOf, datum, pair}
+use Rattle.s800_layout.proofs.Words.{codes-whole, codes-pair}
+use Rattle.s800_reader.specs.Channel.{faultOf, opaqueRows, pairOf}
 use Rattle.s800_reader.proofs.Channels.{judged}
 
 pub read-whole : (ws : List ℕ) (i end : ℕ) → i < end → end ≤ length ws → getD ws i 0 < 2 ^ 16 → whole i (slice i end ws) ≡ ok (getD ws i 0) (i + 1) (slice (i + 1) end ws)
@@ -39,54 +37,6 @@ module _ {ws : List ℕ} {end i₀ k₀ i k : ℕ} {b₀ b b′ : List ℕ} (h :
   opaque-step q z =
       let few = h .few in
       step (λ u. codes-whole) (λ u a g r. refl) h below long (read-whole ws i end below long (rw e at fits)) tt (omega arith) (omega arith) refl (rw e at q) z
-
--- a sample of two words
-module _ (i v w : ℕ) (r : List ℕ) where
-  sample-head : v < 2 ^ 15 → sample i (v ∷ w ∷ r) ≡ refuse 10 i
-  sample-head h =
-      let n : v ≡ sampleHeadWord (sampleHeadOf v) → ⊥ = λ e. omega arith in
-      rw (ne-eqb v (sampleHeadWord (sampleHeadOf v)) n)
-
-  module _ (h : 2 ^ 15 ≤ v) (f : v < 2 ^ 16) where
-    headed : sample i (v ∷ w ∷ r) ≡ then (λ d j s. ok (record { head = sampleHeadOf v; datum = d }) j s)
-        (cond (eqb w (sampleDatumWord (sampleDatumOf w))) (cond (ltb (w / 2 ^ 10) (2 ^ 2)) (cond (ltb (w % 2 ^ 10) (2 ^ 10)) (ok (sampleDatumOf w) (suc (suc i)) r) (refuse 10 (suc i))) (refuse 10 (suc i))) (refuse 10 (suc i)))
-    headed =
-        let e : v ≡ sampleHeadWord (sampleHeadOf v) = omega arith in
-        rw (eq-eqb v (sampleHeadWord (sampleHeadOf v)) e, lt-ltb (v / 2 ^ 6 % 2 ^ 9) (2 ^ 9) (omega arith), lt-ltb (v % 2 ^ 6) (2 ^ 6) (omega arith))
-
-    same-word : eqb w (sampleDatumWord (sampleDatumOf w)) ≡ true
-    same-word = eq-eqb w (sampleDatumWord (sampleDatumOf w)) (let e : w ≡ w / 2 ^ 10 * 2 ^ 10 + w % 2 ^ 10 = omega arith in e)
-
-    sample-datum : 2 ^ 12 ≤ w → sample i (v ∷ w ∷ r) ≡ refuse 10 (i + 1)
-    sample-datum g = headed ∙ rw (same-word, le-ltb (w / 2 ^ 10) (2 ^ 2) (omega arith), add-one i)
-
-    sample-whole : w < 2 ^ 12 → sample i (v ∷ w ∷ r) ≡ ok (sampleOf v w) (i + 2) r
-    sample-whole g =
-        let two : suc (suc i) ≡ i + 2 = omega arith in
-        headed ∙ rw (same-word, lt-ltb (w / 2 ^ 10) (2 ^ 2) (omega arith), lt-ltb (w % 2 ^ 10) (2 ^ 10) (omega arith), two)
-
-abbrev pub Samples : List ℕ → ℕ → ℕ → ℕ → List ℕ → ℕ → ℕ → List ℕ → Type 0
-Samples ws end = Reached (λ u. sample) alone sampleRows (λ u. Unit {0}) ws end tt
-
-abbrev SamplesScanned : List ℕ → ℕ → ℕ → ℕ → List ℕ → Answer → List ℕ → Type 0
-SamplesScanned ws end i₀ = Scanned (each sampleRows) (several sample ended i₀ (slice i₀ end ws))
-
-module _ {ws : List ℕ} {end i₀ k₀ i k : ℕ} {b₀ b : List ℕ} (h : Samples ws end i₀ k₀ b₀ i k b) (below : i + 1 < end) (long : end ≤ length ws)
-    {v : ℕ} (p : v ≡ getD ws i 0) where
-  pub sample-stop : {x : Answer} (after : List ℕ) → v < 2 ^ 15 → x ≡ Refused 10 i → SamplesScanned ws end i₀ k₀ b₀ x after
-  sample-stop after g x = rw x (stop (λ u. codes-sample) (λ u a g r. refl) h (omega arith) long after
-      (rw (at-two ws i end below long p refl) (sample-head i v (getD ws (i + 1) 0) (slice (i + 2) end ws) g)))
-
-  module _ {w : ℕ} (q : w ≡ getD ws (i + 1) 0) (f : v < 2 ^ 16) (g : 2 ^ 15 ≤ v) where
-    pub sample-stop-2 : {x : Answer} (after : List ℕ) → 2 ^ 12 ≤ w → x ≡ Refused 10 (i + 1) → SamplesScanned ws end i₀ k₀ b₀ x after
-    sample-stop-2 after d x = rw x (stop (λ u. codes-sample) (λ u a g r. refl) h (omega arith) long after
-        (rw (at-two ws i end below long p q) (sample-datum i v w (slice (i + 2) end ws) g f d)))
-
-    pub sample-step : {b′ : List ℕ} → w < 2 ^ 12 → b′ ≡ storeRow b k (sampleRow (sampleOf v w)) → length b′ ≡ length b → Samples ws end i₀ k₀ b₀ (i + 2) (k + 1) b′
-    sample-step d s z =
-        let few = h .few in
-        step (λ u. codes-sample) (λ u a g r. refl) h (omega arith) long
-        (rw (at-two ws i end below long p q) (sample-whole i v w (slice (i + 2) end ws) g f d)) tt (omega arith) (omega arith) refl s z
 
 -- a pair of two words, after the channels of a set
 module _ {set : ℕ} {seen : List ℕ} (s : Blocked (pairFormat .barred) set seen) (i : ℕ) {v : ℕ} (f : v < 2 ^ 16) (w : ℕ) (r : List ℕ) where

@@ -8,9 +8,9 @@ use Rattle.event.specs.declared.Answer.the-variants.{Accepted, Refused}
 use Rattle.event.specs.declared.Row.{Row}
 use Rattle.event.specs.Channels.{present}
 use Rattle.event.specs.Rows.{row}
-use Rattle.s800_layout.specs.Event.{Datum, Sample, Pair, Anode, pairEnergy}
-use Rattle.s800_layout.specs.Layout.{datumRow, sampleRow, anodeRow}
-use Rattle.s800_layout.specs.Reading.{datumOf, sampleHeadOf, sampleDatumOf}
+use Rattle.s800_layout.specs.Event.{Datum, Pair, Anode, pairEnergy}
+use Rattle.s800_layout.specs.Layout.{datumRow, anodeRow}
+use Rattle.s800_layout.specs.Reading.{datumOf}
 use Rattle.s800_format.specs.declared.Format.{Format}
 use Rattle.s800_format.specs.Format.{bitsOf}
 
@@ -37,16 +37,10 @@ channelRows m d = channelRow m d ∷ []
 abbrev pub opaqueRows : ℕ → List Row
 opaqueRows w = row 11 0 0 w ∷ []
 
-abbrev pub sampleRows : Sample → List Row
-sampleRows s = sampleRow s ∷ []
-
 abbrev pub anodeRows : Anode → List Row
 anodeRows a = anodeRow a ∷ []
 
--- a sample, and a pair, of two words
-abbrev pub sampleOf : ℕ → ℕ → Sample
-sampleOf head datum = record { head = sampleHeadOf head; datum = sampleDatumOf datum }
-
+-- a pair of two words
 abbrev pub pairOf : ℕ → ℕ → Pair
 pairOf energy time = record { energy = datumOf pairEnergy energy; time = time % 2 ^ pairEnergy .bits }
 

@@ -1,3 +1,4 @@
 pub mod Channel
+pub mod Groups
 pub mod Opening
 pub mod Head

@@ -38,7 +38,6 @@ pub record HodoscopeHits (ws : List ℕ) (start n : ℕ) : Type 0 where
 
 -- a CRDC's packet, of a length that its tag allows, right up to its threshold; the rows up to there
 pub record CrdcHead (ws : List ℕ) (start n : ℕ) : Type 0 where
-  pub even : n % 2 ≡ 0
   pub least : 10 ≤ n
   pub id : getD ws (start + 2) 0 ≤ largestId crdc
   pub samplesLength : getD ws (start + 3) 0 ≡ n - 7

@@ -1,4 +1,4 @@
-// Content words that come in runs: opaque words, samples, and pairs of an energy and a time.
+// Content words that come in runs: opaque words, and pairs of an energy and a time.
 use crate::channel::channel_fault;
 use crate::parts::refuse;
 use crate::word::word;
@@ -8,7 +8,6 @@ use event::channels::with_channel;
 use event::kind;
 use event::refusal;
 use event::rows::store_row;
-use s800_format::pad;
 use s800_format::pair_energies;
 ghost use mathlib.Core.List.{[]};
 ghost use Prim.Native.Nat.{_+_, _-_, _%_, _^_, _≤_, _<_};
@@ -17,11 +16,10 @@ ghost use lib.ListN.{length};
 ghost use lib.Seq.{slice};
 ghost use denote.Ref.{now};
 ghost use Rattle.event.specs.Parser.{ended, many, several, each};
-ghost use Rattle.event.specs.Rows.{storeRow};
 ghost use Rattle.event.specs.Scanning.{storeRows, Scanned};
-ghost use Rattle.s800_layout.specs.Layout.{pairRows, pairChannels, sampleRow};
-ghost use Rattle.s800_layout.specs.Reading.{whole, pair, sample};
-ghost use Rattle.s800_reader.specs.Channel.{opaqueRows, sampleRows, sampleOf, pairOf, NoMore};
+ghost use Rattle.s800_layout.specs.Layout.{pairRows, pairChannels};
+ghost use Rattle.s800_layout.specs.Reading.{whole, pair};
+ghost use Rattle.s800_reader.specs.Channel.{opaqueRows, pairOf, NoMore};
 
 // The words from `from` up to `end`, a row each. They are never refused.
 pub(crate) fn read_opaque(
@@ -48,48 +46,6 @@ pub(crate) fn read_opaque(
         i += 1;
     }
     count
-}
-
-// The samples from `from` up to `end`, an even number of words on.
-pub(crate) fn read_samples(
-    words: &[u16],
-    from: usize,
-    end: usize,
-    rows: &mut [u32],
-    first: usize,
-) -> Answer
-    requires { ⌜ (from ≤ end) × (end ≤ length (now words)) × (first ≤ from) × ((end - from) % 2 ≡ 0) ⌝ }
-    ensures { λ r. ⌜ Scanned (each sampleRows) (several sample ended from (slice from end (now (words .entry)))) first (now (rows .entry)) r (now (rows .exit)) × NoMore end r ⌝ }
-{
-    let mut i = from;
-    let mut count = first;
-    while i < end {
-        let head = word(words, i);
-        if head < 0x8000 {
-            return refuse(refusal::DATA, i);
-        }
-        let datum = word(words, i + 1);
-        if 0xfff < datum {
-            return refuse(refusal::DATA, i + 1);
-        }
-        store_sample(rows, count, head, datum);
-        count += 1;
-        i += 2;
-    }
-    Answer::Accepted(count)
-}
-
-fn store_sample(rows: &mut [u32], at: usize, head: u32, datum: u32)
-    requires { ⌜ datum < 4096 ⌝ }
-    ensures { λ _. ⌜ now (rows .exit) ≡ storeRow (now (rows .entry)) at (sampleRow (sampleOf head datum)) ⌝ }
-{
-    let row = Row {
-        kind: kind::SAMPLE,
-        unit: head / 64 % 512,
-        channel: pad((head % 64) as u16, (datum / 1024) as u16),
-        datum: datum % 1024,
-    };
-    store_row(rows, at, row);
 }
 
 // The pairs of an energy and a time from `from` up to `end`, an even number of words on.

@@ -2,6 +2,7 @@
 mod channel;
 mod channel_packets;
 mod content;
+mod groups;
 mod head;
 mod packet;
 mod parts;

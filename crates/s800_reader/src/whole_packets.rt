@@ -2,7 +2,7 @@
 use crate::Opened;
 use crate::content::read_opaque;
 use crate::content::read_pairs;
-use crate::content::read_samples;
+use crate::groups::read_samples;
 use crate::parts::complete;
 use crate::parts::opened;
 use crate::parts::refuse;
@@ -50,8 +50,8 @@ pub(crate) fn open_scintillator(
     opened(read_pairs(words, start + 2, end, rows, count + 1), end)
 }
 
-// 0x5840, an even length of 10 words and up: id 0 or 1, an inner packet 0x5841 as long as the packet less 7 (a threshold, then
-// samples), an inner packet 0x5845.
+// 0x5840, 10 words and up: id 0 or 1, an inner packet 0x5841 as long as the packet less 7 (a threshold, then groups of samples), an
+// inner packet 0x5845.
 pub(crate) fn open_crdc(
     words: &[u16],
     start: usize,
@@ -62,9 +62,6 @@ pub(crate) fn open_crdc(
     requires { ⌜ PacketAt (now words) start size count ⌝ }
     ensures { λ r. ⌜ OpensAs crdc (now (words .entry)) start size count (now (rows .entry)) (now (rows .exit)) r ⌝ }
 {
-    if size % 2 == 1 {
-        return refuse_packet(refusal::LENGTH, start);
-    }
     if size < 10 {
         return refuse_packet(refusal::LENGTH, start);
     }

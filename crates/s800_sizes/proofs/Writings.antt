@@ -1,10 +1,12 @@
 -- Writings of dialect S of about 4,096 words, computed. The expected outcomes are document 01's.
 -- Assumes nothing.
+use Prim.Native.Nat.{ℕ}
 use mathlib.Core.Path.{_≡_, refl}
 use mathlib.Core.List.{List, [], _∷_, _++_, map}
 use lib.ListN.{replicate}
 use Rattle.event.specs.declared.Answer.the-variants.{Refused}
 use Rattle.event.specs.declared.StampOrder.the-variants.{Crossed}
+use Rattle.event.specs.Parser.{each}
 use Rattle.event.specs.Rows.{row}
 use Rattle.event.proofs.Vectors.{writeInto, RoomCase, case}
 use Rattle.s800_layout.specs.Writing.{writing}
@@ -21,7 +23,7 @@ vectors =
     ∷ tooLarge
     ∷ no (row 1 0x5830 0 0 ∷ (replicate 4081 (row 11 0 0 0xffff) ++ (row 5 0 0 0 ∷ []))) 21 4086
     ∷ no (row 1 0x5830 0 0 ∷ (replicate 4081 (row 11 0 0 0xffff) ++ (row 1 0x5801 0 0 ∷ []))) 21 4087
-    ∷ no (row 1 0x5840 1 0 ∷ row 7 0 0 9 ∷ (replicate 2037 (row 8 37 146 300) ++ (row 9 0 1 2 ∷ []))) 23 4098
+    ∷ no (row 1 0x5840 1 0 ∷ row 7 0 0 9 ∷ (each (λ (n : ℕ). row 8 37 18 0 ∷ row 12 37 146 300 ∷ []) (replicate 2037 0) ++ (row 9 0 1 2 ∷ []))) 23 4098
     ∷ no (replicate 2042 (row 1 0x5802 0 0)) 23 4098 ∷ []
 
 -- each writing is the expected one

@@ -16,8 +16,8 @@ use Rattle.event.specs.Writing.{atKind, noRow}
 use Rattle.event.proofs.Ends.{placed}
 use Rattle.event.proofs.WritingTurns.{Wrote, wrote, unwritten, writes-part, writes-done}
 use Rattle.s800_layout.specs.Event.{crdc, samplesTag, anodeTag}
-use Rattle.s800_layout.specs.Layout.{framed, sampleWords, samplesWords, anodeWords, contentWords, anodeRow, anodeChecks}
-use Rattle.s800_layout.specs.Writing.{datumBelow, sample, samples, anodeOf, anode}
+use Rattle.s800_layout.specs.Layout.{framed, samplesWords, anodeWords, contentWords, anodeRow, anodeChecks, groupWords}
+use Rattle.s800_layout.specs.Writing.{datumBelow, samples, anodeOf, anode, group}
 use Rattle.s800_layout.proofs.Rows.{codes-samples}
 use Rattle.s800_writer.specs.Rows.{limitsFault}
 use Rattle.s800_writer.specs.Packets.{closed}
@@ -58,13 +58,13 @@ module _ (id : ℕ) (rs : List Row) (i : ℕ) {r : Row} (e : r ≡ getD rs (i + 
     threshold-inside = taken .0
 
     -- the inner packet of the samples, closed
-    module _ (b₁ : List ℕ) {b₂ b₃ b₄ : List ℕ} {p p′ : Part} (t : b₂ ≡ storeWord 16 b₁ 5 (r .datum)) (s : Writes 16 (each sampleWords) (several sample (atKind 9) (i + 2) (drop (i + 2) rs)) rs 6 b₂ p b₃)
+    module _ (b₁ : List ℕ) {b₂ b₃ b₄ : List ℕ} {p p′ : Part} (t : b₂ ≡ storeWord 16 b₁ 5 (r .datum)) (s : Writes 16 (each groupWords) (several group (atKind 9) (i + 2) (drop (i + 2) rs)) rs 6 b₂ p b₃)
         (d : p′ ≡ p) (c : b₄ ≡ closed 3 samplesTag p b₃) where
       inner : Writes 16 (λ s. framed samplesTag (samplesWords s)) (samples (i + 1) (drop (i + 1) rs)) rs 3 b₁ p′ b₄
       inner =
           let two : i + 1 + 1 ≡ i + 2 = omega arith in
           closed-writes samplesWords 3 samplesTag (samples (i + 1) (drop (i + 1) rs))
-          (rw (taken .1, two) (writes-part 16 (each sampleWords) (r .datum ∷ []) (several sample (atKind 9) (i + 2) (drop (i + 2) rs)) (λ xs. record { threshold = r .datum; samples = xs }) samplesWords (λ xs. refl) refl t s))
+          (rw (taken .1, two) (writes-part 16 (each groupWords) (r .datum ∷ []) (several group (atKind 9) (i + 2) (drop (i + 2) rs)) (λ xs. record { threshold = r .datum; groups = xs }) samplesWords (λ xs. refl) refl t s))
           d c
 
       pub samples-refused : {n m : ℕ} → p′ ≡ Refused n m → contentAt crdc id rs i ≡ refuse n m

@@ -6,10 +6,12 @@ use mathlib.Core.Path.{_≡_, sym, _∙_}
 use mathlib.Core.List.{List, [], _∷_, map}
 use lib.ListN.{length, length-append, length-map}
 use Rattle.event.specs.declared.Row.{Row}
+use Rattle.event.specs.Parser.{each}
 use Rattle.event.specs.Rows.{row}
-use Rattle.s800_layout.specs.Event.{energies, hits, Form, trigger, timeOfFlight, scintillator, ionChamber, crdc, hodoscope, objectPin, vmeAdc, opaque, Content, Packet, samplesTag, anodeTag, triggerTime, flightTime, energy16, adcEnergy}
-use Rattle.s800_layout.specs.Layout.{framed, datumWord, datumRow, hodoscopeBase, adcBase, samplesWords, sampleRow, anodeWords, anodeRow, contentWords, contentRows, packetWords, packetRows}
-use Rattle.s800_layout.proofs.RowCount.{pair-count, sample-count}
+use Rattle.s800_layout.specs.Event.{energies, hits, Form, trigger, timeOfFlight, scintillator, ionChamber, crdc, hodoscope, objectPin, vmeAdc, opaque, Content, Packet}
+use Rattle.s800_layout.specs.Event.{samplesTag, anodeTag, triggerTime, flightTime, energy16, adcEnergy}
+use Rattle.s800_layout.specs.Layout.{framed, datumWord, datumRow, hodoscopeBase, adcBase, samplesWords, groupRows, anodeWords, anodeRow, contentWords, contentRows, packetWords, packetRows}
+use Rattle.s800_layout.proofs.RowCount.{pair-count, group-count}
 
 as-many : {A : Type 0} (f : A → ℕ) (g : A → Row) (xs : List A) → length (map f xs) ≡ length (map g xs)
 as-many f g xs = length-map xs f ∙ sym (length-map xs g)
@@ -23,8 +25,8 @@ content-few ionChamber xs = omega (arith, as-many (datumWord energy16) (datumRow
 content-few crdc c =
     let s = c .samples in
     let words = length-append (framed samplesTag (samplesWords s)) (framed anodeTag (anodeWords (c .anode))) in
-    let rows = length-append (map sampleRow (s .samples)) (anodeRow (c .anode) ∷ []) in
-    omega (arith, sample-count (s .samples), length-map (s .samples) sampleRow)
+    let rows = length-append (each groupRows (s .groups)) (anodeRow (c .anode) ∷ []) in
+    omega (arith, group-count (s .groups))
 content-few hodoscope (energies id xs) = omega (arith, as-many (datumWord energy16) (datumRow 6 (hodoscopeBase id)) xs)
 content-few hodoscope (hits h) = omega arith
 content-few objectPin d = omega arith

@@ -3,6 +3,8 @@ pub mod Limits
 pub mod Datum
 pub mod Channels
 pub mod Singles
+pub mod SampleRows
+pub mod GroupTurns
 pub mod Pairs
 pub mod Closing
 pub mod Packets

@@ -20,8 +20,8 @@ use Rattle.event.proofs.RowCodes.{SameFields}
 use Rattle.event.proofs.RowFaults.{OfField, judged, tested, test-number, each-of, three, datum-tested}
 use Rattle.event.proofs.RowsIn.{rows-count}
 use Rattle.event.proofs.RowJudged.{rows-from, rows-over}
-use Rattle.s800_layout.specs.Layout.{sampleRow, anodeRow, registerRow, stampRow, numberRow, sampleChecks, anodeChecks, registerChecks, stampChecks, numberChecks}
-use Rattle.s800_layout.specs.Writing.{sampleOf, anodeOf, registersOf, stampOf, numberOf}
+use Rattle.s800_layout.specs.Layout.{anodeRow, registerRow, stampRow, numberRow, anodeChecks, registerChecks, stampChecks, numberChecks, sampleHeadRow, sampleHeadChecks}
+use Rattle.s800_layout.specs.Writing.{anodeOf, registersOf, stampOf, numberOf, sampleHeadOf}
 use Rattle.s800_writer.specs.Rows.{limitsFault, timeFault}
 
 -- a row of another kind, or the end of the rows
@@ -72,9 +72,8 @@ pub plain-fault : (k bound : ℕ) (r : Row) → faultIn (rowTests (ofKind k) (λ
 plain-fault k bound r = by-limits k 0 0 bound (λ r. r .datum) (row k 0 0) (belowChecks 22 (suc bound)) r (refl, tt)
     (λ p. omega tests) (λ e h. ((e, omega arith, omega arith, refl), omega tests))
 
-pub sample-fault : (r : Row) → faultIn (rowTests (ofKind 8) sampleOf sampleRow (sampleChecks 22) r) ≡ limitsFault 8 511 255 1023 r
-sample-fault r = by-limits 8 511 255 1023 sampleOf sampleRow (sampleChecks 22) r (refl, (refl, (refl, (refl, tt))))
-    (λ p. omega tests) (λ e h. ((e, refl, omega arith, refl), omega tests))
+pub head-fault : (r : Row) → faultIn (rowTests (ofKind 8) sampleHeadOf sampleHeadRow (sampleHeadChecks 22) r) ≡ limitsFault 8 511 63 0 r
+head-fault r = by-limits 8 511 63 0 sampleHeadOf sampleHeadRow (sampleHeadChecks 22) r (refl, (refl, tt)) (λ p. omega tests) (λ e h. ((e, refl, refl, omega arith), omega tests))
 
 pub anode-fault : (r : Row) → faultIn (rowTests (ofKind 9) anodeOf anodeRow (anodeChecks 22) r) ≡ limitsFault 9 0 65535 65535 r
 anode-fault r = by-limits 9 0 65535 65535 anodeOf anodeRow (anodeChecks 22) r (refl, (refl, tt)) (λ p. omega tests) (λ e h. ((e, omega arith, refl, refl), omega tests))

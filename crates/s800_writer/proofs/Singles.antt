@@ -19,11 +19,10 @@ use Rattle.event.proofs.RowFaults.{Numbered}
 use Rattle.event.proofs.RowJudged.{rows-from, row-taken, row-refused}
 use Rattle.event.proofs.Turns.{upToStop}
 use Rattle.event.proofs.WritingTurns.{WritesOn, run-refused, run-taken}
-use Rattle.s800_layout.specs.Layout.{sampleWords, sampleRow, sampleChecks}
-use Rattle.s800_layout.specs.Writing.{atPacket, sampleOf, sample, datumBelow}
-use Rattle.s800_layout.proofs.Rows.{codes-sample, codes-below}
+use Rattle.s800_layout.specs.Writing.{atPacket, datumBelow}
+use Rattle.s800_layout.proofs.Rows.{codes-below}
 use Rattle.s800_writer.specs.Rows.{limitsFault}
-use Rattle.s800_writer.proofs.Limits.{bounded, plain-fault, sample-fault}
+use Rattle.s800_writer.proofs.Limits.{bounded, plain-fault}
 
 module _ {A : Type 0} (k u c d : ℕ) (fields : Row → A) (print : A → Row) (checks : A → List Test) (law : (r : Row) → faultIn (rowTests (ofKind k) fields print checks r) ≡ limitsFault k u c d r)
     (some : eqb k 0 ≡ false) (numbered : (a : A) → Numbered (checks a)) (rs : List Row) (i : ℕ) {r : Row} (e : r ≡ getD rs i noRow) where
@@ -54,24 +53,6 @@ module _ {A : Type 0} (k u c d : ℕ) (fields : Row → A) (print : A → Row) (
       let t = one-taken k u c d fields print checks law some numbered rs i e f in
       let l = t .0 in
       run-taken 16 stop h (λ t. codes) (λ t a g l. on a l) halt going (rw p (t .1)) tt (omega arith) (omega arith) q s z
-
--- samples up to the anode
-abbrev pub Samples : List Row → ℕ → ℕ → List ℕ → ℕ → ℕ → List ℕ → Type 0
-Samples rs = WritesOn 16 (upToStop (atKind 9) (λ t. sample) alone) sampleWords (λ t. Unit {0}) rs tt
-
-module _ (rs : List Row) (i : ℕ) {r : Row} (e : r ≡ getD rs i noRow) (f : 0 ≡ limitsFault 8 511 255 1023 r) where
-  pub samples-inside : i < length rs
-  samples-inside = one-taken 8 511 255 1023 sampleOf sampleRow (sampleChecks 22) sample-fault refl (λ a. (tt, (tt, (tt, (tt, tt))))) rs i e f .0
-
-  pub samples-going : true ≡ not (atKind 9 (drop i rs))
-  samples-going = one-going 8 511 255 1023 sampleOf sampleRow (sampleChecks 22) sample-fault refl (λ a. (tt, (tt, (tt, (tt, tt))))) rs i e 9 refl f
-
-module _ {rs : List Row} {i₀ k₀ i n : ℕ} {b₀ b : List ℕ} (h : Samples rs i₀ k₀ b₀ i n b) (going : true ≡ not (atKind 9 (drop i rs))) {r : Row} (e : r ≡ getD rs i noRow) where
-  pub samples-stop : {m : ℕ} (after : List ℕ) → m ≡ limitsFault 8 511 255 1023 r → (m ≡ 0 → ⊥) → Writes 16 (each sampleWords) (several sample (atKind 9) i₀ (drop i₀ rs)) rs k₀ b₀ (Refused m i) after
-  samples-stop = several-refused 8 511 255 1023 sampleOf sampleRow (sampleChecks 22) sample-fault refl (λ a. (tt, (tt, (tt, (tt, tt))))) codes-sample (atKind 9) (λ a l. refl) refl sampleWords h going e
-
-  pub samples-step : {b′ : List ℕ} → 0 ≡ limitsFault 8 511 255 1023 r → b′ ≡ storeWords 16 b n (sampleWords (sampleOf r)) → length b′ ≡ length b → Samples rs i₀ k₀ b₀ (i + 1) (n + 2) b′
-  samples-step f = several-taken 8 511 255 1023 sampleOf sampleRow (sampleChecks 22) sample-fault refl (λ a. (tt, (tt, (tt, (tt, tt))))) codes-sample (atKind 9) (λ a l. refl) refl sampleWords h going e f refl refl (omega arith)
 
 -- opaque words
 abbrev pub Opaques : List Row → ℕ → ℕ → List ℕ → ℕ → ℕ → List ℕ → Type 0

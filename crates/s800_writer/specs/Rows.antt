@@ -7,9 +7,11 @@ use lib.Dec.{eqb, ltb, leb}
 use lib.ListN.{length}
 use Rattle.event.specs.declared.Row.{Row}
 use Rattle.event.specs.Channels.{present}
-use Rattle.s800_layout.specs.Event.{Datum, Pair, pairEnergy}
-use Rattle.s800_layout.specs.Layout.{datumWord}
-use Rattle.s800_layout.specs.Writing.{datumOf}
+use Rattle.event.specs.Parser.{faultIn}
+use Rattle.event.specs.Writing.{rowTests, ofKind}
+use Rattle.s800_layout.specs.Event.{Datum, Pair, SampleHead, SampleDatum, pairEnergy}
+use Rattle.s800_layout.specs.Layout.{datumWord, sampleDatumWord, sampleDatumRow, sampleDatumChecks}
+use Rattle.s800_layout.specs.Writing.{datumOf, sampleDatumOf}
 use Rattle.s800_format.specs.declared.Format.{Format}
 use Rattle.s800_format.specs.Format.{bitsOf, formatOf}
 
@@ -31,6 +33,13 @@ datumFault m set r =
 -- the time of a pair, of the energy's channel: 21 its kind; 22 its unit, its channel, its number; 0 for none
 unfoldable pub timeFault : (channel : ℕ) → Row → ℕ
 timeFault channel r = cond (eqb 5 (r .kind)) (cond ((eqb (r .unit) 0 && eqb (r .channel) channel) && ltb (r .datum) (2 ^ pairEnergy .bits)) 0 22) 21
+
+-- a row of kind 12 under its head: what the layout's tests of it find
+unfoldable pub sampleDatumFault : SampleHead → (least : ℕ) → Row → ℕ
+sampleDatumFault h least r = faultIn (rowTests (ofKind 12) sampleDatumOf (sampleDatumRow h) (sampleDatumChecks 22 least) r)
+
+abbrev pub sampleDatumWords : SampleDatum → List ℕ
+sampleDatumWords d = sampleDatumWord d ∷ []
 
 -- the words of one datum
 abbrev pub datumWords : Format → Datum → List ℕ

@@ -1,5 +1,4 @@
-// Content rows that come in runs, up to the next packet's own row, samples up to the anode's: their words, from word `first` of the
-// packet on.
+// Content rows that come in runs, up to the next packet's own row: their words, from word `first` of the packet on.
 use crate::row::before_kind;
 use crate::row::channel_fault;
 use crate::row::limits_fault;
@@ -20,9 +19,9 @@ ghost use denote.Ref.{now};
 ghost use Rattle.event.specs.Parser.{many, several, each};
 ghost use Rattle.event.specs.Words.{wordAlone};
 ghost use Rattle.event.specs.Scanning.{storeWords, Writes};
-ghost use Rattle.event.specs.Writing.{rowsIn, atKind};
-ghost use Rattle.s800_layout.specs.Layout.{channelWord, pairWords, sampleWords, pairChannels};
-ghost use Rattle.s800_layout.specs.Writing.{atPacket, channelRows, pair, sampleOf, sample, datumBelow};
+ghost use Rattle.event.specs.Writing.{rowsIn};
+ghost use Rattle.s800_layout.specs.Layout.{channelWord, pairWords, pairChannels};
+ghost use Rattle.s800_layout.specs.Writing.{atPacket, channelRows, pair, datumBelow};
 ghost use Rattle.s800_format.specs.Format.{bitsOf, formatOf};
 ghost use Rattle.s800_writer.specs.Rows.{RunAt, datumWords, pairOf};
 
@@ -104,43 +103,6 @@ fn store_pair(words: &mut [u16], at: usize, energy: Row, time: Row)
     let high = energy.channel * 4096;
     store_word16(words, at, (high + energy.datum) as usize);
     store_word16(words, at + 1, (high + time.datum) as usize);
-}
-
-// Samples up to the anode. A good sample is neither the anode's row nor past the last one, so the end is looked for only where a row is no sample.
-pub(crate) fn write_samples(rows: &[u32], from: usize, words: &mut [u16], first: usize) -> Part
-    requires { ⌜ RunAt (rowsIn (now rows)) from first ⌝ }
-    ensures { λ r. ⌜ Writes 16 (each sampleWords) (several sample (atKind 9) from (drop from (rowsIn (now (rows .entry))))) (rowsIn (now (rows .entry))) first (now (words .entry)) r (now (words .exit)) ⌝ }
-{
-    let mut i = from;
-    let mut at = first;
-    loop {
-        let row = row_at(rows, i);
-        let number = limits_fault(row, kind::SAMPLE, 511, 255, 1023);
-        if number != 0 {
-            if before_kind(rows, i, kind::ANODE) {
-                return Part::Refused { number, place: i };
-            }
-            return Part::Done { next: i, count: at };
-        }
-        store_sample(words, at, row);
-        at += 2;
-        i += 1;
-    }
-}
-
-// Bit 15 set, the sample in bits 14-6, the channel of the pad in bits 5-0; then its connector in bits 11-10, the energy below.
-fn store_sample(words: &mut [u16], at: usize, row: Row)
-    requires { ⌜ (at + 1 < 2 ^ 64) × (row .unit ≤ 511) × (row .channel ≤ 255) × (row .datum ≤ 1023) ⌝ }
-    ensures { λ _. ⌜ now (words .exit) ≡ storeWords 16 (now (words .entry)) at (sampleWords (sampleOf row)) ⌝ }
-{
-    // Neither word fits: the pass that counts.
-    if words.len() <= at {
-        return;
-    }
-    let head = 32768 + row.unit * 64 + row.channel % 64;
-    store_word16(words, at, head as usize);
-    let datum = row.channel / 64 * 1024 + row.datum;
-    store_word16(words, at + 1, datum as usize);
 }
 
 // Opaque words.

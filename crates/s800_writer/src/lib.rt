@@ -1,6 +1,7 @@
 // Writes one event of dialect S, the S800 event of version 5 (document 01), from its rows.
 mod channel_packets;
 mod content;
+mod groups;
 mod other_packets;
 mod packet;
 mod part;

@@ -2,7 +2,7 @@
 // at the front of `part`.
 use crate::content::write_opaque_words;
 use crate::content::write_pairs;
-use crate::content::write_samples;
+use crate::groups::write_samples;
 use crate::part::close;
 use crate::row::limits_fault;
 use event::Part;

@@ -11,8 +11,9 @@ ghost use Prim.Native.Nat.{_^_};
 ghost use lib.ListN.{drop};
 ghost use denote.Ref.{now};
 ghost use Rattle.event.specs.Writing.{rowsIn, atKind};
+ghost use Rattle.s800_layout.specs.Writing.{sampleHeadOf};
 ghost use Rattle.s800_format.specs.Format.{bitsOf};
-ghost use Rattle.s800_writer.specs.Rows.{limitsFault, datumFault, timeFault};
+ghost use Rattle.s800_writer.specs.Rows.{limitsFault, datumFault, timeFault, sampleDatumFault};
 
 // Row `at` is there, and of another kind than this one.
 pub(crate) fn before_kind(rows: &[u32], at: usize, kind: u32) -> bool
@@ -76,6 +77,20 @@ pub(crate) fn time_fault(row: Row, channel: u32) -> u32
         return refusal::KIND;
     }
     if (row.unit == 0) & (row.channel == channel) & (row.datum < 4096) {
+        return 0;
+    }
+    refusal::FIELD
+}
+
+// A row of kind 12 under its head, of a connector from `least` on.
+pub(crate) fn sample_datum_fault(row: Row, head: Row, least: u32) -> u32
+    ensures { λ r. ⌜ r ≡ sampleDatumFault (sampleHeadOf head) least row ⌝ }
+{
+    if row.kind != kind::SAMPLE_DATUM {
+        return refusal::KIND;
+    }
+    let same = (row.unit == head.unit) & (row.channel % 64 == head.channel);
+    if same & (row.channel <= 255) & (row.datum <= 1023) & (least <= row.channel / 64) {
         return 0;
     }
     refusal::FIELD

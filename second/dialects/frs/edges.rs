@@ -6,7 +6,7 @@ use super::layout::{
 };
 use super::make::{module_geos, Block};
 use super::two_faults;
-use crate::dialects::{Edges, Probed};
+use crate::dialects::{refused, Edges, Probed};
 
 /// F has no lengths: its headers are among the layouts.
 pub fn edges() -> Edges<u32> {
@@ -15,7 +15,7 @@ pub fn edges() -> Edges<u32> {
         layouts: layouts(),
         headers: vec![],
         probed: vec![Probed { words: every_block(), first_word: 0, first_row: 0 }],
-        two_faults: two_faults::events(),
+        answered: refused(two_faults::events()),
     }
 }
 

@@ -26,6 +26,7 @@ pub static DIALECT: Dialect = Dialect {
         limits: rows::limits,
         any_limits: &FIELD_LIMITS,
         lists: rows::lists,
+        damage: None,
         too_many: None,
     },
     mend: None,

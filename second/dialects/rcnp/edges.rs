@@ -7,7 +7,7 @@ use super::layout::{
 use super::make::{event_of, region, summed, Region};
 use super::read::LARGEST_EVENT;
 use super::two_faults;
-use crate::dialects::{Edges, Probed};
+use crate::dialects::{refused, Edges, Probed};
 
 pub fn edges() -> Edges<u16> {
     Edges {
@@ -15,7 +15,7 @@ pub fn edges() -> Edges<u16> {
         layouts: layouts(),
         headers: ids_and_sizes(),
         probed: probed(),
-        two_faults: two_faults::events(),
+        answered: refused(two_faults::events()),
     }
 }
 

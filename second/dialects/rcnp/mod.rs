@@ -26,6 +26,7 @@ pub static DIALECT: Dialect = Dialect {
         limits: rows::limits,
         any_limits: &rows::ANY_LIMITS,
         lists: rows::lists,
+        damage: None,
         too_many: Some(rows::too_many),
     },
     mend: Some(Mend { words: mend::words, rows: mend::rows }),

@@ -1,10 +1,9 @@
 //! The data block of source document 003 (its chapter 4.3), and the lists of two_faults.rs. Document
 //! 01's spoken cases have none of R.
 
-use super::two_faults;
-use super::write::words_of;
+use super::{two_faults, DIALECT};
 use crate::base::{Order, Row};
-use crate::check::{ensure, outcome};
+use crate::check::{ensure, ensure_refused, outcome};
 
 /// The regions of the first event, with a sum behind them that document 003 leaves out there.
 const DATA_BLOCK: &str = "R 2001 1c3a d007 b001 0096 0873 1037 182e 2081 283b \
@@ -28,11 +27,7 @@ pub fn check() -> Result<(), String> {
         [33, 0, 0, 0x438c],
     ];
     ensure(end == Ok(rows), "document 003's scaler")?;
-    for (refusal, rows) in two_faults::writings() {
-        let came = words_of(&rows.concat(), Order::Crossed);
-        ensure(came == Err(refusal), &format!("{refusal:?}, not {came:?}, for rows {rows:?}"))?;
-    }
-    Ok(())
+    ensure_refused(&DIALECT, two_faults::writings())
 }
 
 /// Document 003 names, of these, module 61, channel 23 with time 179, channel 28 with 1a3, the last

@@ -1,6 +1,7 @@
 //! Damage to the words of dialect S. Enclosing lengths are often repaired afterwards, so that
 //! an inner fault is reached and not hidden by refusal 2 or 5.
 
+use super::groups::{is_head, HEAD};
 use super::make::{self, Packet};
 use super::tags;
 use crate::rng::Rng;
@@ -8,10 +9,10 @@ use crate::rng::Rng;
 /// The words of an event of these packets, damaged in one to three ways.
 pub fn damaged(rng: &mut Rng, mut packets: Vec<Packet>) -> Vec<u16> {
     for _ in 0..rng.pick(&[1, 1, 1, 1, 2, 3]) {
-        if rng.chance(25) {
-            damage_packets(rng, &mut packets);
-        } else {
-            damage_one(rng, &mut packets);
+        match rng.below(16) {
+            0..=3 => damage_packets(rng, &mut packets),
+            4..=6 => damage_groups(rng, &mut packets),
+            _ => damage_one(rng, &mut packets),
         }
     }
     let mut words = make::event_of(&packets);
@@ -144,6 +145,55 @@ fn damage_word(rng: &mut Rng, packet: &mut Packet) {
         3 => packet[one] = packet[one].wrapping_add(rng.pick(&[0x1000, 0xf000, 0x2000, 0xe000])),
         4 => packet.swap(one, other),
         _ => packet[one] = rng.number(16) as u16,
+    }
+}
+
+/// The groups of one 0x5840 packet, added if none has groups, or the packet cut below its least
+/// length; its lengths are then right again.
+fn damage_groups(rng: &mut Rng, packets: &mut Vec<Packet>) {
+    let has_groups = |packet: &Packet| packet.len() >= 12 && packet[1] == tags::CRDC;
+    if !packets.iter().any(has_groups) {
+        packets.push(make::packet_with_groups(rng));
+    }
+    let places: Vec<usize> = (0..packets.len()).filter(|&at| has_groups(&packets[at])).collect();
+    let packet = &mut packets[rng.pick(&places)];
+    if rng.chance(10) {
+        packet.truncate(rng.within(2, 9));
+    } else {
+        let anode = packet.len() - 4;
+        let mut words = packet[6..anode].to_vec();
+        damage_group(rng, &mut words);
+        packet.splice(6..anode, words);
+    }
+    packet[0] = packet.len() as u16;
+    repair_inner(packet);
+}
+
+/// One group of these words, or what stands before the first or behind the last one.
+fn damage_group(rng: &mut Rng, words: &mut Vec<u16>) {
+    let at = rng.below(words.len());
+    let head = words[..=at].iter().rposition(|&word| is_head(word)).unwrap_or(0);
+    let count = words[head + 1..].iter().take_while(|&&word| !is_head(word)).count();
+    let end = head + 1 + count;
+    let energy = rng.number(10) as u16;
+    match rng.below(10) {
+        // A connector again, and the highest one before the others.
+        0 => words.insert(end, words[end - 1] & 0x0c00 | energy),
+        1 => words.insert(head + 1, 0x0c00 | energy),
+        // Bits that are zero in a data word; a data word that becomes a head, or the other way.
+        2 => words[end - 1] |= rng.pick(&[0x1000, 0x2000, 0x4000]),
+        3 => words[at] ^= HEAD,
+        // A group without its head, without its data words, and one more head before it.
+        4 => drop(words.remove(head)),
+        5 => drop(words.drain(head + 1..end)),
+        6 => words.insert(head, words[head]),
+        // A data word first and a head last in the inner packet.
+        7 => words.insert(0, rng.number(12) as u16),
+        8 => words.push(words[head]),
+        _ => {
+            let five = [0, 0x0400, 0x0800, 0x0c00, rng.number(12) as u16];
+            drop(words.splice(head + 1..end, five));
+        }
     }
 }
 

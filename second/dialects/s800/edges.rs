@@ -2,8 +2,8 @@
 
 use super::make::{event_of, packet, Packet};
 use super::read::{LARGEST_EVENT, SMALLEST_EVENT};
-use super::{tags, two_faults};
-use crate::dialects::{Edges, Probed};
+use super::{group_edges, tags, two_faults};
+use crate::dialects::{refused, Edges, Probed};
 
 pub fn edges() -> Edges<u16> {
     Edges {
@@ -11,7 +11,7 @@ pub fn edges() -> Edges<u16> {
         layouts: layouts(),
         headers: tags_and_lengths(),
         probed: probed(),
-        two_faults: two_faults::events(),
+        answered: [refused(two_faults::events()), group_edges::answered()].concat(),
     }
 }
 
@@ -117,7 +117,7 @@ pub fn fullest() -> Vec<Vec<u16>> {
 fn small_packets() -> Vec<Packet> {
     let mut packets: Vec<Packet> = forms().iter().map(Form::small).collect();
     packets.push(scintillator(&[3, 5]));
-    packets.push(crdc(1, &[0x8952, 0x092c]));
+    packets.push(crdc(1, &[0x8952, 0x052c, 0x092c, 0x8041, 0x0000]));
     packets.push(packet(tags::HODOSCOPE, &[2, 0xffff, 0x8001, 0x0fff]));
     packets.extend(tags::OPAQUE.map(|tag| packet(tag, &[0xffff])));
     packets
@@ -147,9 +147,10 @@ fn scintillator(channels: &[u16]) -> Packet {
     packet(tags::SCINTILLATOR, &words)
 }
 
-fn crdc(id: u16, samples: &[u16]) -> Packet {
-    let mut content = vec![id, samples.len() as u16 + 3, tags::CRDC_RAW, 0xffff];
-    content.extend_from_slice(samples);
+/// With the words of some groups.
+pub fn crdc(id: u16, groups: &[u16]) -> Packet {
+    let mut content = vec![id, groups.len() as u16 + 3, tags::CRDC_RAW, 0xffff];
+    content.extend_from_slice(groups);
     content.extend([4, tags::CRDC_ANODE, 0xffff, 0xffff]);
     packet(tags::CRDC, &content)
 }
@@ -176,6 +177,7 @@ fn layouts() -> Vec<Vec<u16>> {
     }
     packets.extend((0..16).map(|bit| packet(tags::TRIGGER, &[1 << bit])));
     let mut events: Vec<Vec<u16>> = packets.into_iter().map(|packet| with(&[packet])).collect();
+    events.extend(group_edges::layouts());
     events.extend(whole_events());
     events
 }
@@ -198,7 +200,8 @@ fn whole_events() -> Vec<Vec<u16>> {
         event_of(&[packet(0x5830, &[0; 4]), second()]),
         event_of(&[first(), packet(0x5830, &[0; 3])]),
         with(&[packet(tags::OPAQUE[0], &vec![0xffff; free - 2])]),
-        with(&[crdc(0, &[0x8952, 0x092c].repeat((free - 10) / 2))]),
+        with(&[crdc(0, &group_edges::filled(free - 10))]),
+        with(&[crdc(0, &group_edges::filled(free - 11))]),
     ];
     for (index, word) in [(0, 0), (0, 13), (0, 15), (1, 0x5801), (1, 0), (2, 4), (2, 6), (2, 0)] {
         let mut event = smallest();
@@ -213,7 +216,7 @@ fn whole_events() -> Vec<Vec<u16>> {
 }
 
 /// Every tag from 0x5800 to 0x58ff with the shortest length, and every known tag with every
-/// length to 22, its inner lengths and tags as they should be.
+/// length to 22, its inner lengths and tags, and its groups, as they should be.
 fn tags_and_lengths() -> Vec<Vec<u16>> {
     let mut events = Vec::new();
     for tag in 0x5800..=0x58ff {
@@ -226,8 +229,7 @@ fn tags_and_lengths() -> Vec<Vec<u16>> {
                 words[2..4].copy_from_slice(&[length as u16 - 2, tags::ION_CHAMBER_ENERGIES]);
             }
             if tag == tags::CRDC && length >= 10 {
-                words[3..5].copy_from_slice(&[length as u16 - 7, tags::CRDC_RAW]);
-                words[length - 4..length - 2].copy_from_slice(&[4, tags::CRDC_ANODE]);
+                words = crdc(0, &group_edges::filled(length - 10));
             }
             events.push(with(&[words]));
         }

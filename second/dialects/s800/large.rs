@@ -18,6 +18,13 @@ pub fn readings() -> Vec<Vector> {
             }
         }
     }
+    // 4,096 words with 4,079 rows. Each line of the vector's text holds one group of four words, so
+    // that it is short.
+    let groups = edges::crdc(0, &[0x8952, 0x012c, 0x052c, 0x092c].repeat(1018));
+    for (order, room) in [(Order::Crossed, 4 * 4079), (Order::Rising, 4 * 4079 - 1)] {
+        let words = widened(&edges::with(&[groups.clone()]));
+        vectors.push(Vector::reading(&DIALECT, order, room, words));
+    }
     vectors
 }
 

@@ -1,5 +1,6 @@
 //! Acceptable events of dialect S, kept as packets so that damage can repair lengths.
 
+use super::groups;
 use super::read::{LARGEST_EVENT, SMALLEST_EVENT};
 use super::tags;
 use crate::dialects::OPAQUE_WORDS;
@@ -41,13 +42,14 @@ pub fn smallest(rng: &mut Rng) -> Vec<Packet> {
     vec![stamp_packet(rng), event_number_packet(rng)]
 }
 
-/// A trigger, an ion chamber, two 0x5840 packets of 128 samples.
+/// A trigger, an ion chamber, two 0x5840 packets whose groups fill 256 words each: by turns one to
+/// four data words, 20 groups of one and 18 of each other number.
 pub fn large(rng: &mut Rng) -> Vec<Packet> {
     let mut packets = smallest(rng);
     packets.push(packet_of(rng, tags::TRIGGER));
     packets.push(packet_of(rng, tags::ION_CHAMBER));
-    packets.push(crdc_packet(rng, 128));
-    packets.push(crdc_packet(rng, 128));
+    packets.push(crdc_packet(rng, &filling(256)));
+    packets.push(crdc_packet(rng, &filling(256)));
     packets
 }
 
@@ -96,8 +98,10 @@ fn fill_up(rng: &mut Rng, packets: &mut Vec<Packet>) {
         free -= next.len();
         packets.push(next);
     }
-    if free % 2 == 0 {
-        packets.push(crdc_packet(rng, (free - 10) / 2));
+    if rng.chance(60) {
+        let data_words = filling(free - 10);
+        let shuffled = rng.distinct(&data_words, data_words.len());
+        packets.push(crdc_packet(rng, &shuffled));
     } else {
         let tag = rng.pick(&tags::OPAQUE);
         packets.push(packet(tag, &whole_words(rng, free - 2)));
@@ -126,8 +130,8 @@ fn packet_of(rng: &mut Rng, tag: u16) -> Packet {
             packet(tag, &content)
         }
         tags::CRDC => {
-            let samples = if rng.below(12) == 0 { rng.count(0, 160) } else { rng.below(4) };
-            crdc_packet(rng, samples)
+            let groups = if rng.below(12) == 0 { rng.count(0, 64) } else { rng.below(4) };
+            random_crdc_packet(rng, groups)
         }
         tags::PIN => packet(tag, &any_channel_words(rng, 1)),
         tags::HODOSCOPE => hodoscope_packet(rng),
@@ -179,14 +183,48 @@ fn hodoscope_packet(rng: &mut Rng) -> Packet {
     packet(tags::HODOSCOPE, &content)
 }
 
-fn crdc_packet(rng: &mut Rng, samples: usize) -> Packet {
-    let mut content = vec![rng.below(2) as u16, 2 * samples as u16 + 3, tags::CRDC_RAW];
+/// A random 0x5840 packet of one to three groups.
+pub fn packet_with_groups(rng: &mut Rng) -> Packet {
+    let groups = rng.within(1, 3);
+    random_crdc_packet(rng, groups)
+}
+
+fn random_crdc_packet(rng: &mut Rng, groups: usize) -> Packet {
+    let data_words: Vec<u32> = (0..groups).map(|_| rng.pick(&[1, 2, 3, 4])).collect();
+    crdc_packet(rng, &data_words)
+}
+
+/// Groups with these numbers of data words.
+fn crdc_packet(rng: &mut Rng, data_words: &[u32]) -> Packet {
+    let groups: Vec<u16> = data_words.iter().flat_map(|&count| group(rng, count)).collect();
+    let mut content = vec![rng.below(2) as u16, groups.len() as u16 + 3, tags::CRDC_RAW];
     content.push(rng.number(16) as u16);
-    for _ in 0..samples {
-        content.push(0x8000 | (rng.number(9) << 6 | rng.number(6)) as u16);
-        content.push((rng.number(2) << 10 | rng.number(10)) as u16);
-    }
+    content.extend(groups);
     content.extend([4, tags::CRDC_ANODE]);
     content.extend(whole_words(rng, 2));
     packet(tags::CRDC, &content)
+}
+
+/// The numbers of data words of groups that have so many words together: one to four by turns,
+/// others only at the end. A single word is a head without data words.
+pub fn filling(words: usize) -> Vec<u32> {
+    let (mut left, mut data_words) = (words, Vec::new());
+    while left > 0 {
+        let mut count = (data_words.len() % 4 + 1).min(left - 1);
+        // One word more or less, so that no single one is left.
+        if left - 1 - count == 1 {
+            count = if count < 4 { count + 1 } else { 3 };
+        }
+        data_words.push(count as u32);
+        left -= 1 + count;
+    }
+    data_words
+}
+
+fn group(rng: &mut Rng, data_words: u32) -> Vec<u16> {
+    let mut connectors = rng.distinct(&[0, 1, 2, 3], data_words as usize);
+    connectors.sort_unstable();
+    let mut words = vec![groups::HEAD | (rng.number(9) << 6 | rng.number(6)) as u16];
+    words.extend(connectors.iter().map(|connector| (connector << 10 | rng.number(10)) as u16));
+    words
 }

@@ -2,6 +2,8 @@
 
 mod damage;
 mod edges;
+mod group_edges;
+mod groups;
 mod large;
 pub(crate) mod make;
 mod marks;
@@ -12,9 +14,9 @@ mod tags;
 mod two_faults;
 mod write;
 
-use super::{Dialect, Functions, Native, Rows, Special, Wanted};
+use super::{Dialect, Functions, Native, Rows, Wanted};
 use crate::generate::damage_rows::FIELD_LIMITS;
-pub(crate) use read::pad;
+pub(crate) use groups::pad;
 
 pub static DIALECT: Dialect = Dialect {
     letter: 'S',
@@ -22,19 +24,20 @@ pub static DIALECT: Dialect = Dialect {
     largest_event: read::LARGEST_EVENT,
     native: Native::Bits16(&FUNCTIONS),
     rows: Rows {
-        kinds: 0..=12,
+        kinds: 0..=13,
         tag_kinds: &[(tags::kind::PACKET, rows::any_tag)],
         limits: rows::limits,
         any_limits: &FIELD_LIMITS,
         lists: rows::lists,
+        damage: Some(rows::damage_group),
         too_many: Some(rows::too_many),
     },
     mend: None,
     wanted: Wanted {
         reading: &[1, 2, 3, 4, 5, 6, 7, 8, 9, 10, 11],
         writing: &[20, 21, 22, 23, 24],
-        special: Special::NONE,
-        special_writing: Special::NONE,
+        special: marks::READING,
+        special_writing: marks::WRITING,
         add_marks: marks::add,
         marks: marks::wanted,
     },

@@ -1,5 +1,6 @@
 //! Reading of dialect S (01, "Dialect S, word by word" and the refusal table).
 
+use super::groups;
 use super::tags::{self, kind};
 use crate::base::{refuse, ChannelSet, Order, Refusal, Row};
 
@@ -62,7 +63,7 @@ impl<'a> Packet<'a> {
         if !tags::may_stand(u32::from(tag), packet_index) {
             return refuse(6, at + 1);
         }
-        if !length_allowed(tag, length) {
+        if !tags::length_allowed(tag, length) {
             return refuse(7, at);
         }
         let mut id = 0;
@@ -187,17 +188,8 @@ impl<'a> Packet<'a> {
         let anode = self.words.len() - 4;
         self.inner_head(3, self.words.len() - 7, tags::CRDC_RAW)?;
         rows.push([kind::THRESHOLD, 0, 0, self.number(5)]);
-        for index in (6..anode).step_by(2) {
-            let (head, data) = (self.number(index), self.number(index + 1));
-            if head & 0x8000 == 0 {
-                return self.refuse(10, index);
-            }
-            if data & 0xf000 != 0 {
-                return self.refuse(10, index + 1);
-            }
-            let pad = pad(head & 0x3f, data >> 10);
-            rows.push([kind::SAMPLE, head >> 6 & 0x1ff, pad, data & 0x3ff]);
-        }
+        groups::put_rows(&self.words[6..anode], rows)
+            .or_else(|index| self.refuse(10, 6 + index))?;
         self.inner_head(anode, 4, tags::CRDC_ANODE)?;
         rows.push([kind::ANODE, 0, self.number(anode + 2), self.number(anode + 3)]);
         Ok(())
@@ -227,26 +219,4 @@ fn energies(first_row_channel: u32) -> ChannelLayout {
 fn adc_energies(first_row_channel: u32) -> ChannelLayout {
     let allowed_channels = 0xff;
     ChannelLayout { kind: kind::ENERGY, number_bits: 13, allowed_channels, first_row_channel }
-}
-
-/// The pad of a sample, of a channel from 0 to 63 and a connector from 0 to 3.
-pub fn pad(channel: u32, connector: u32) -> u32 {
-    channel + 64 * connector
-}
-
-/// The lengths of each tag; for a hodoscope those of any of its ids.
-fn length_allowed(tag: u16, length: usize) -> bool {
-    match tag {
-        tags::STAMP => length == 6,
-        tags::EVENT_NUMBER => length == 5,
-        tags::TRIGGER => (3..=7).contains(&length),
-        tags::TIME_OF_FLIGHT => (2..=10).contains(&length),
-        tags::SCINTILLATOR => (2..=14).contains(&length) && length % 2 == 0,
-        tags::ION_CHAMBER => (4..=20).contains(&length),
-        tags::CRDC => length >= 10 && length % 2 == 0,
-        tags::HODOSCOPE => (3..=19).contains(&length),
-        tags::PIN => length == 3,
-        tags::ADC => (3..=11).contains(&length),
-        _ => length >= 2,
-    }
 }

@@ -1,7 +1,7 @@
 //! What is tried on the rows of dialect S, in its writing.
 
 use super::tags::{self, kind};
-use super::{edges, read};
+use super::{edges, group_edges, groups, make, read};
 use crate::base::{Order, Row};
 use crate::rng::Rng;
 use crate::vectors::MOST_ELEMENTS;
@@ -22,14 +22,22 @@ pub fn limits(row: &Row, field: usize) -> Vec<u32> {
         (kind::TIME, 3) => &[0, 0xfff, 0x1000],
         (kind::ENERGY, 2) => &[0, 5, 6, 7, 8, 15, 16, 23, 24, 31, 32],
         (kind::ENERGY, 3) => &[0, 0xfff, 0x1000, 0x1fff, 0x2000],
-        (kind::SAMPLE, 1) => &[0, 0x1ff, 0x200],
-        (kind::SAMPLE, 2) => &[0, 0x3f, 0x40, 0xff, 0x100],
-        (kind::SAMPLE, 3) => &[0, 0x3ff, 0x400],
+        (kind::GROUP_HEAD, 1) => &[0, 0x1ff, 0x200],
+        (kind::GROUP_HEAD, 2) => &[0, 0x3f, 0x40, 0xff, 0x100],
+        (kind::DATA_WORD, 1) => return vec![row[1] ^ 1, 0, 0x1ff, 0x200],
+        (kind::DATA_WORD, 2) => return data_word_pads(row[2] % 64),
+        (kind::DATA_WORD, 3) => &[0, 0x3ff, 0x400],
         (kind::THRESHOLD | kind::OPAQUE, 3) => whole,
         (kind::ANODE, 2 | 3) | (kind::HITS, _) => whole,
         _ => zero,
     };
     values.to_vec()
+}
+
+/// Each connector with the channel and with the one beside it, and connectors 4 and 2^16.
+fn data_word_pads(channel: u32) -> Vec<u32> {
+    let connectors = [0, 1, 2, 3, 4, 0x1_0000];
+    connectors.iter().flat_map(|n| [64 * n + channel, 64 * n + (channel ^ 1)]).collect()
 }
 
 /// A tag of a row of kind 1: mostly one that may stand after the second packet.
@@ -43,11 +51,12 @@ pub fn any_tag(rng: &mut Rng) -> u32 {
     }
 }
 
-/// All channels of each form, with one row more, and with one packet more.
+/// All channels of each form, with one row more, and with one packet more; the lists of
+/// group_edges.rs.
 pub fn lists() -> Vec<Vec<u32>> {
-    let mut lists = Vec::new();
+    let mut lists = group_edges::row_lists();
     for words in edges::fullest() {
-        let rows = read::rows_of(&words, Order::Crossed).expect("an edge event is acceptable");
+        let rows = rows_of(&words);
         let last = rows[rows.len() - 1];
         let head = [kind::PACKET, u32::from(tags::PIN), 0, 0];
         lists.push(rows.concat());
@@ -57,12 +66,63 @@ pub fn lists() -> Vec<Vec<u32>> {
     lists
 }
 
-/// Rows that need about or more than 4,096 words: empty packets of two words or opaque words are
-/// added to the rows of an event.
+fn rows_of(words: &[u16]) -> Vec<Row> {
+    read::rows_of(words, Order::Crossed).expect("an edge event is acceptable")
+}
+
+/// The indices of heads that data words follow.
+fn group_heads(rows: &[Row]) -> Vec<usize> {
+    let is_group =
+        |at: &usize| rows[*at][0] == kind::GROUP_HEAD && rows[at + 1][0] == kind::DATA_WORD;
+    (0..rows.len() - 1).filter(is_group).collect()
+}
+
+/// Damage to one group, or to what its rows must say alike; a packet with groups is added if none
+/// is there.
+pub fn damage_group(rng: &mut Rng, rows: &mut Vec<Row>) {
+    if group_heads(rows).is_empty() {
+        let packet = make::packet_with_groups(rng);
+        rows.extend_from_slice(&rows_of(&edges::with(&[packet]))[4..]);
+    }
+    let heads = group_heads(rows);
+    let head = rng.pick(&heads);
+    let count = rows[head + 1..].iter().take_while(|row| row[0] == kind::DATA_WORD).count();
+    let end = head + 1 + count;
+    let at = rng.within(head + 1, end - 1);
+    match rng.below(12) {
+        0 => rows[at][1] ^= 1 << rng.below(9),
+        1 => rows[at][2] ^= 1 << rng.below(6),
+        2 => rows[at][2] |= 1 << rng.within(8, 31),
+        3 => rows[at][3] |= 1 << rng.within(10, 31),
+        4 => rows[head][1] |= 1 << rng.within(9, 31),
+        5 => rows[head][2] |= 1 << rng.within(6, 31),
+        6 => rows[head][3] |= 1 << rng.below(32),
+        // A group without its data words, without its head, and the rows' end behind a head.
+        7 => drop(rows.drain(head + 1..end)),
+        8 => drop(rows.remove(head)),
+        9 => rows.truncate(head + 1),
+        // The connector before again or a lower one; a fifth data word, of connector 0 to 4.
+        10 => rows.insert(end, rows[at]),
+        _ => {
+            let connectors = [0, 1, 2, 3, rng.below(5) as u32];
+            let [_, sample, channel, _] = rows[head];
+            let data_word = |n| [kind::DATA_WORD, sample, groups::pad(channel, n), 0x12c];
+            drop(rows.splice(head + 1..end, connectors.map(data_word)));
+        }
+    }
+}
+
+/// Rows that need about or more than 4,096 words: groups, opaque words or empty packets of two
+/// words are added to the rows of an event.
 pub fn too_many(rng: &mut Rng, rows: &[Row], words_now: usize) -> Vec<u32> {
     let mut rows = rows.to_vec();
     let wanted = rng.pick(&[4095, 4096, 4097, 4098, 4099, 4100, 4500, 6000]).max(words_now);
-    let missing = wanted - words_now;
+    let mut missing = wanted - words_now;
+    if missing >= 12 && rng.chance(40) {
+        let groups = group_edges::filled((missing - 10).min(1500));
+        rows.extend_from_slice(&rows_of(&edges::with(&[edges::crdc(0, &groups)]))[4..]);
+        missing -= 10 + groups.len();
+    }
     let tag = u32::from(rng.pick(&tags::OPAQUE));
     if missing >= 2 {
         let opaque = if rng.chance(50) { (missing - 2).min(1500) } else { missing % 2 };

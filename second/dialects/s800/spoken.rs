@@ -1,7 +1,8 @@
-//! Spoken cases 1 to 9 of document 01.
+//! Spoken cases 1 to 9 of document 01, case 7 as 02, #103, has it, and the lists of group_edges.rs.
 
+use super::{group_edges, DIALECT};
 use crate::base::{Order, Refusal, Row};
-use crate::check::{ensure, outcome, Outcome};
+use crate::check::{ensure, ensure_refused, outcome, Outcome};
 
 const M: &str = "S 000e 5800 0005 0006 5803 1234 0000 0001 0000 0005 5804 0007 0000 0000";
 
@@ -16,9 +17,11 @@ pub fn check() -> Result<(), String> {
     let longer = format!("{} 0000", M.replacen("000e", "000f", 1));
     ensure(outcome(&longer, Order::Crossed) == refused(5, 14), "case 6")?;
     let crdc = "000c 5840 0000 0005 5841 0000 8952 092c 0004 5845 0000 0000";
-    ensure(added_row(crdc, 1) == Some([8, 37, 146, 300]), "case 7")?;
+    ensure(added_row(crdc, 2) == Some([8, 37, 18, 0]), "case 7, the head")?;
+    ensure(added_row(crdc, 1) == Some([12, 37, 146, 300]), "case 7, the data word")?;
     ensure(added_row("0004 58c0 0002 612c", 0) == Some([6, 0, 19, 300]), "case 8")?;
-    ensure(added_row("0004 5801 0000 8064", 0) == Some([5, 0, 8, 100]), "case 9")
+    ensure(added_row("0004 5801 0000 8064", 0) == Some([5, 0, 8, 100]), "case 9")?;
+    ensure_refused(&DIALECT, group_edges::writings())
 }
 
 /// The outcome of M with one word replaced.

@@ -1,4 +1,5 @@
-//! Tags and row kinds of dialect S, by the names of source document 000 and 01, "Rows".
+//! Tags, packet lengths and row kinds of dialect S, by the names of source document 000, of 01,
+//! "Rows", and of 02, #103.
 
 pub const EVENT: u16 = 0x5800;
 pub const VERSION: u16 = 0x0005;
@@ -54,6 +55,23 @@ pub fn largest_id(tag: u16) -> Option<u16> {
     }
 }
 
+/// The lengths of each tag; for a hodoscope those of any of its ids.
+pub fn length_allowed(tag: u16, length: usize) -> bool {
+    match tag {
+        STAMP => length == 6,
+        EVENT_NUMBER => length == 5,
+        TRIGGER => (3..=7).contains(&length),
+        TIME_OF_FLIGHT => (2..=10).contains(&length),
+        SCINTILLATOR => (2..=14).contains(&length) && length % 2 == 0,
+        ION_CHAMBER => (4..=20).contains(&length),
+        CRDC => length >= 10,
+        HODOSCOPE => (3..=19).contains(&length),
+        PIN => length == 3,
+        ADC => (3..=11).contains(&length),
+        _ => length >= 2,
+    }
+}
+
 pub mod kind {
     pub const PACKET: u32 = 1;
     pub const STAMP: u32 = 2;
@@ -62,8 +80,9 @@ pub mod kind {
     pub const TIME: u32 = 5;
     pub const ENERGY: u32 = 6;
     pub const THRESHOLD: u32 = 7;
-    pub const SAMPLE: u32 = 8;
+    pub const GROUP_HEAD: u32 = 8;
     pub const ANODE: u32 = 9;
     pub const HITS: u32 = 10;
     pub const OPAQUE: u32 = 11;
+    pub const DATA_WORD: u32 = 12;
 }

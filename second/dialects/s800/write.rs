@@ -1,5 +1,6 @@
 //! Writing of dialect S: the inverse of the layouts in read.rs, with refusals 20 to 23.
 
+use super::groups;
 use super::read::LARGEST_EVENT;
 use super::tags::{self, kind};
 use crate::base::{refuse, ChannelSet, Order, Refusal};
@@ -151,12 +152,7 @@ impl Writer<'_> {
         let threshold = self.rows.take(kind::THRESHOLD)?;
         self.rows.require(threshold[1] == 0 && threshold[2] == 0 && threshold[3] <= 0xffff)?;
         self.put(threshold[3]);
-        while self.rows.next_is(kind::SAMPLE) {
-            let [_, sample, pad, energy] = self.rows.take(kind::SAMPLE)?;
-            self.rows.require(sample <= 0x1ff && pad <= 0xff && energy <= 0x3ff)?;
-            self.put(0x8000 | sample << 6 | pad % 64);
-            self.put(pad / 64 << 10 | energy);
-        }
+        self.put_groups()?;
         self.set_length(raw);
         let anode = self.rows.take(kind::ANODE)?;
         self.rows.require(anode[1] == 0 && anode[2] <= 0xffff && anode[3] <= 0xffff)?;
@@ -165,6 +161,33 @@ impl Writer<'_> {
         self.put(anode[2]);
         self.put(anode[3]);
         Ok(())
+    }
+
+    fn put_groups(&mut self) -> Result<(), Refusal> {
+        while self.rows.next_is(kind::GROUP_HEAD) {
+            let [_, sample, channel, zero] = self.rows.take(kind::GROUP_HEAD)?;
+            self.rows.require(sample <= 0x1ff && channel <= 0x3f && zero == 0)?;
+            self.put(u32::from(groups::HEAD) | sample << 6 | channel);
+            self.put_data_words(sample, channel)?;
+        }
+        Ok(())
+    }
+
+    /// At least one row, each with the head's sample and channel. The rising connectors leave none
+    /// for a fifth row.
+    fn put_data_words(&mut self, sample: u32, channel: u32) -> Result<(), Refusal> {
+        let mut next_connector = 0;
+        loop {
+            let [_, own_sample, pad, energy] = self.rows.take(kind::DATA_WORD)?;
+            let connector = pad / 64;
+            self.rows.require(own_sample == sample && pad % 64 == channel && energy <= 0x3ff)?;
+            self.rows.require(connector >= next_connector && connector <= 3)?;
+            self.put(connector << 10 | energy);
+            next_connector = connector + 1;
+            if !self.rows.next_is(kind::DATA_WORD) {
+                return Ok(());
+            }
+        }
     }
 
     fn put_hits(&mut self) -> Result<(), Refusal> {
