@@ -83,7 +83,7 @@ static int spoken_words(void) {
     };
     static const uint8_t adc[8] = {0x04, 0x00, 0xc0, 0x58, 0x02, 0x00, 0x2c, 0x61};
     static const uint8_t trigger[8] = {0x04, 0x00, 0x01, 0x58, 0x01, 0x00, 0x64, 0x80};
-    int good = packet_holds("case 7, sample words 8952 092c", samples, sizeof samples, 8);
+    int good = packet_holds("case 7, the group 8952 092c", samples, sizeof samples, 9);
     good &= packet_holds("case 8, word 612c under id 2 of 0x58C0", adc, sizeof adc, 6);
     good &= packet_holds("case 9, time word 8064", trigger, sizeof trigger, 7);
     return good;

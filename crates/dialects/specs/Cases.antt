@@ -1,4 +1,4 @@
--- The twelve spoken cases of document 01: a single table.
+-- The twelve spoken cases of document 01, the seventh as document 02 has it (#103): a single table.
 -- Assumes nothing.
 use Prim.Native.Nat.{ℕ}
 use mathlib.Core.Path.{_≡_}

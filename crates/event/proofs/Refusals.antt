@@ -9,7 +9,8 @@ use mathlib.Core.Option.{some, none}
 use lib.Dec.{T, leb}
 use lib.ListN.{length, take, drop, length-take, length-drop}
 use borrow.Author.Tests.{leb-true}
-use Rattle.event.specs.Parser.{Result, ok, refuse, Parser, Test, ended, then, _>>=_, give, here, require, finish, checked, lastly, judge, element, filled, within, optionally, times, upTo, many, All}
+use Rattle.event.specs.Parser.{Result, ok, refuse, Parser, Test, ended, then, _>>=_, give, here, require, finish, checked, lastly, judge, element, filled, within, optionally}
+use Rattle.event.specs.Parser.{times, upTo, many, All}
 use Rattle.event.specs.Outcome.{done, refused, outcome}
 use Rattle.event.proofs.Codes.{T-true, nil}
 use Rattle.event.proofs.Impossible.{impossible}

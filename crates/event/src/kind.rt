@@ -14,7 +14,7 @@ pub const ENERGY: u32 = 6;
 
 pub const THRESHOLD: u32 = 7;
 
-pub const SAMPLE: u32 = 8;
+pub const SAMPLE_HEAD: u32 = 8;
 
 pub const ANODE: u32 = 9;
 

@@ -1,4 +1,4 @@
-// What reading and writing dialect S share (document 01, 'Dialect S'): the tags, the formats of channel words, the pad of a sample.
+// What reading and writing dialect S share (document 01, 'Dialect S'): the tags, the formats of channel words, the pad of a channel and a connector.
 pub mod tag;
 
 use event::kind;
@@ -105,7 +105,7 @@ pub fn is_opaque(tag: u32) -> bool
     }
 }
 
-// The pad of a sample: channel 0 to 63 of connector 0 to 3.
+// The pad of a channel, 0 to 63, and a connector, 0 to 3.
 pub fn pad(channel: u16, connector: u16) -> u32
     ensures { λ r. ⌜ r ≡ pad channel connector ⌝ }
 {

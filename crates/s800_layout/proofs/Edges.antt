@@ -1,4 +1,4 @@
--- Readings of dialect S at the edges of its tables, computed (those of the largest events: crate s800_sizes). The expected outcomes are document 01's.
+-- Readings of dialect S at the edges of its tables, computed (those of the largest events: crate s800_sizes). The expected outcomes are those of documents 01 and 02.
 -- Assumes nothing.
 use Prim.Native.Nat.{ℕ, _+_}
 use mathlib.Core.Path.{_≡_, refl}
@@ -198,7 +198,7 @@ others =
     ∷ ok (5 ∷ 0x58c0 ∷ 1 ∷ 0xffff ∷ 0x1fff ∷ []) (row 1 0x58c0 1 0 ∷ row 6 0 15 8191 ∷ row 6 0 8 8191 ∷ [])
     ∷ no (5 ∷ 0x58c0 ∷ 2 ∷ 0x0064 ∷ 0x1064 ∷ []) 11 18 ∷ []
 
--- 0x5830, 0x5850, 0x5860, 0x5870, 0x5880, 0x5890, 2 and up: opaque words. (Their largest stands in `events`.)
+-- 0x5830, 0x5850, 0x5860, 0x5870, 0x5880, 0x5890, 2 and up: opaque words. (Their largest: crate s800_sizes.)
 abbrev opaqueTags : List ℕ
 opaqueTags = 0x5830 ∷ 0x5850 ∷ 0x5860 ∷ 0x5870 ∷ 0x5880 ∷ 0x5890 ∷ []
 

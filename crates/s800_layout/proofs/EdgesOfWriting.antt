@@ -1,4 +1,4 @@
--- Writings of dialect S at the edges of its tables, computed (those of the largest events: crate s800_sizes). The expected outcomes are document 01's.
+-- Writings of dialect S at the edges of its tables, computed (those of the largest events: crate s800_sizes). The expected outcomes are those of documents 01 and 02.
 -- Assumes nothing.
 use Prim.Native.Nat.{ℕ, _+_}
 use mathlib.Core.Bool.{cond}
@@ -49,7 +49,7 @@ but allowed [] = []
 but allowed (k ∷ ks) = cond (member k allowed) (but allowed ks) (k ∷ but allowed ks)
 
 abbrev kinds : List ℕ
-kinds = 0 ∷ 1 ∷ 2 ∷ 3 ∷ 4 ∷ 5 ∷ 6 ∷ 7 ∷ 8 ∷ 9 ∷ 10 ∷ 11 ∷ 12 ∷ 16 ∷ 17 ∷ 18 ∷ 19 ∷ 20 ∷ 21 ∷ 22 ∷ 0x00010001 ∷ 0xffffffff ∷ []
+kinds = 0 ∷ 1 ∷ 2 ∷ 3 ∷ 4 ∷ 5 ∷ 6 ∷ 7 ∷ 8 ∷ 9 ∷ 10 ∷ 11 ∷ 12 ∷ 13 ∷ 14 ∷ 15 ∷ 16 ∷ 17 ∷ 18 ∷ 19 ∷ 20 ∷ 21 ∷ 22 ∷ 32 ∷ 33 ∷ 34 ∷ 35 ∷ 36 ∷ 0x00010001 ∷ 0xffffffff ∷ []
 
 abbrev pub only : (allowed : List ℕ) → List Row → List Vector
 only allowed before = map (λ k. no (before ++ (row k 0x5802 0 0 ∷ [])) 21 (4 + length before)) (but allowed kinds)

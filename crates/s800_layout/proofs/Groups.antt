@@ -4,7 +4,7 @@ use Prim.Native.Nat.{ℕ, suc, _+_, _≤_}
 use native.Mathlib.Omega.{arith}
 use mathlib.Core.Path.{_≡_, refl, ap, _∙_}
 use mathlib.Core.Bool.{Bool, true, false}
-use mathlib.Core.List.{List, [], _∷_, _++_, append-nil, map}
+use mathlib.Core.List.{List, [], _∷_, append-nil, map}
 use lib.Dec.{T, ltb→lt, leb→le}
 use lib.ListN.{length}
 use Rattle.event.specs.Parser.{Parser, Passed, Goods, _>>=_, many}

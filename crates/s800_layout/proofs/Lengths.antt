@@ -11,7 +11,9 @@ use borrow.Author.Tests.{eq-eqb, le-leb}
 use Rattle.event.specs.Parser.{each}
 use Rattle.event.proofs.Elements.{in-between, each-length}
 use Rattle.event.proofs.Keys.{unused, at-most}
-use Rattle.s800_layout.specs.Event.{Datum, Pair, energies, hits, focalPlaneTime, intermediateCrdc, targetPin, intermediateTrack, intermediatePpac, objectScintillator, Form, trigger, timeOfFlight, scintillator, ionChamber, crdc, hodoscope, objectPin, vmeAdc, opaque, Content, samplesTag, anodeTag, tag, formOf, ChannelFormat, triggerTime, flightTime, pairEnergy, energy16, adcEnergy}
+use Rattle.s800_layout.specs.Event.{Datum, Pair, energies, hits, focalPlaneTime, intermediateCrdc, targetPin, intermediateTrack, intermediatePpac, objectScintillator, Form}
+use Rattle.s800_layout.specs.Event.{trigger, timeOfFlight, scintillator, ionChamber, crdc, hodoscope, objectPin, vmeAdc, opaque, Content, samplesTag, anodeTag, tag, formOf}
+use Rattle.s800_layout.specs.Event.{ChannelFormat, triggerTime, flightTime, pairEnergy, energy16, adcEnergy}
 use Rattle.s800_layout.specs.Layout.{framed, datumWord, pairWords, samplesWords, anodeWords, contentWords, ValidDatum, ValidData, ValidPair, ValidContent}
 use Rattle.s800_layout.specs.Reading.{even, allowedLength}
 

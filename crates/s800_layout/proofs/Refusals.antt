@@ -16,9 +16,11 @@ use Rattle.event.proofs.Codes.{true-T}
 use Rattle.event.proofs.Elements.{both, bounds}
 use Rattle.event.proofs.Refusals.{Keeps, either, keeps-give, keeps-left, keeps-bind, keeps-map, keeps-require, keeps-element, keeps-next, keeps-here, keeps-within, keeps-many, keeps-ok, keeps-many-at}
 use Rattle.event.proofs.ReadingRefusals.{fills-words, reading-refused}
-use Rattle.s800_layout.specs.Event.{Content, Form, trigger, timeOfFlight, scintillator, ionChamber, crdc, hodoscope, objectPin, vmeAdc, opaque, stampTag, numberTag, energiesTag, samplesTag, anodeTag, ChannelFormat, triggerTime, flightTime, energy16, adcEnergy}
+use Rattle.s800_layout.specs.Event.{Content, Form, trigger, timeOfFlight, scintillator, ionChamber, crdc, hodoscope, objectPin, vmeAdc, opaque, stampTag, numberTag}
+use Rattle.s800_layout.specs.Event.{energiesTag, samplesTag, anodeTag, ChannelFormat, triggerTime, flightTime, energy16, adcEnergy}
 use Rattle.s800_layout.specs.Layout.{rows, smallestEvent, largestEvent, channels, pairChannels, above, hasData}
-use Rattle.s800_layout.specs.Reading.{even, allowedLength, bodyOf, packetOf, inner, whole, datum, channelWords, pair, samples, anode, registers, content, formWord, packetContent, packet, stampContent, numberContent, eventParser, reading, sampleDatum, atHead, group}
+use Rattle.s800_layout.specs.Reading.{even, allowedLength, bodyOf, packetOf, inner, whole, datum, channelWords, pair, samples, anode, registers, content, formWord}
+use Rattle.s800_layout.specs.Reading.{packetContent, packet, stampContent, numberContent, eventParser, reading, sampleDatum, atHead, group}
 
 -- Every place is before `bound`. A content of an allowed length finds all its words and leaves none: so there is no refusal past the words, and none by 0.
 module _ (bound : ℕ) where

@@ -1,4 +1,5 @@
--- Readings and writings of dialect S into buffers at the edges of their room, computed: refusals 12 and 24, and what the buffer holds afterwards. The expected answers are document 01's.
+-- Readings and writings of dialect S into buffers at the edges of their room, computed: refusals 12 and 24, and what the buffer holds afterwards. The expected
+-- answers are those of documents 01 and 02.
 -- Assumes nothing.
 use Prim.Native.Nat.{ℕ}
 use mathlib.Core.Path.{_≡_, refl}
@@ -20,6 +21,15 @@ bad = 0x0012 ∷ 0x5800 ∷ 0x0005 ∷ 0x0006 ∷ 0x5803 ∷ 0x1234 ∷ 0x0000 �
 abbrev elements : List ℕ
 elements = 1 ∷ 0x5803 ∷ 0 ∷ 0 ∷ 2 ∷ 0 ∷ 0 ∷ 0x00011234 ∷ 1 ∷ 0x5804 ∷ 0 ∷ 0 ∷ 3 ∷ 0 ∷ 0 ∷ 7 ∷ []
 
+-- M with a packet 0x5840 of case 7's group, and the elements of that packet's rows
+abbrev grouped : List ℕ
+grouped =
+    0x001a ∷ 0x5800 ∷ 0x0005 ∷ 0x0006 ∷ 0x5803 ∷ 0x1234 ∷ 0x0000 ∷ 0x0001 ∷ 0x0000 ∷ 0x0005 ∷ 0x5804 ∷ 0x0007 ∷ 0x0000 ∷ 0x0000
+    ∷ 0x000c ∷ 0x5840 ∷ 0 ∷ 0x0005 ∷ 0x5841 ∷ 0 ∷ 0x8952 ∷ 0x092c ∷ 0x0004 ∷ 0x5845 ∷ 0 ∷ 0 ∷ []
+
+abbrev groupElements : List ℕ
+groupElements = 1 ∷ 0x5840 ∷ 0 ∷ 0 ∷ 7 ∷ 0 ∷ 0 ∷ 0 ∷ 8 ∷ 37 ∷ 18 ∷ 0 ∷ 12 ∷ 37 ∷ 146 ∷ 300 ∷ 9 ∷ 0 ∷ 0 ∷ 0 ∷ []
+
 abbrev readings : List RoomCase
 readings =
     -- 12, place the rows needed, the buffer as it was
@@ -32,6 +42,9 @@ readings =
     ∷ case m (nines 17) (Accepted 4) (elements ++ nines 1)
     ∷ case m (nines 19) (Accepted 4) (elements ++ nines 3)
     ∷ case m (nines 40) (Accepted 4) (elements ++ nines 24)
+    -- M with case 7's group: a row for its head and one for its data word
+    ∷ case grouped (nines 35) (Refused 12 9) (nines 35)
+    ∷ case grouped (nines 36) (Accepted 9) (elements ++ groupElements)
     -- 12 comes last, and no refusal writes
     ∷ case bad [] (Refused 10 17) []
     ∷ case bad (nines 15) (Refused 10 17) (nines 15)
@@ -51,6 +64,8 @@ writings =
     ∷ case elements (nines 14) (Accepted 14) m
     ∷ case elements (nines 15) (Accepted 14) (m ++ nines 1)
     ∷ case elements (nines 40) (Accepted 14) (m ++ nines 26)
+    ∷ case (elements ++ groupElements) (nines 25) (Refused 24 26) (nines 25)
+    ∷ case (elements ++ groupElements) (nines 27) (Accepted 26) (grouped ++ nines 1)
     -- 24 comes last (after 23: crate s800_sizes), and no refusal writes
     ∷ case (9 ∷ elements) [] (Refused 20 0) []
     ∷ case badElements [] (Refused 22 3) []

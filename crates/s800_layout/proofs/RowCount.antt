@@ -1,13 +1,14 @@
 -- An event has no more rows than words. The layout alone shows it: no rule is needed.
 -- Assumes nothing.
-use Prim.Native.Nat.{_*_, _≤_}
+use Prim.Native.Nat.{_≤_}
 use native.Mathlib.Omega.{arith}
 use mathlib.Core.Path.{_≡_, refl}
 use mathlib.Core.List.{List, [], _∷_}
 use lib.ListN.{length, length-append, length-map}
 use Rattle.event.specs.declared.StampOrder.{StampOrder}
 use Rattle.event.specs.Parser.{each}
-use Rattle.s800_layout.specs.Event.{Pair, energies, hits, Form, trigger, timeOfFlight, scintillator, ionChamber, crdc, hodoscope, objectPin, vmeAdc, opaque, Content, Run, end, plain, Event, Group}
+use Rattle.s800_layout.specs.Event.{Pair, energies, hits, Form, trigger, timeOfFlight, scintillator, ionChamber, crdc, hodoscope, objectPin, vmeAdc, opaque, Content, Run}
+use Rattle.s800_layout.specs.Event.{end, plain, Event, Group}
 use Rattle.s800_layout.specs.Layout.{pairWords, contentWords, runWords, words, pairRows, contentRows, runRows, rows, groupWords, groupRows}
 
 pub pair-count : (xs : List Pair) → length (each pairRows xs) ≡ length (each pairWords xs)

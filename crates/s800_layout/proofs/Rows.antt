@@ -19,9 +19,15 @@ use Rattle.event.proofs.Sequences.{codes-bind, codes-bind-at, codes-map, codes-
 use Rattle.event.proofs.Many.{codes-many}
 use Rattle.event.proofs.Elements.{prints-map, prints-each, codes-several, each-map, codes-several-at}
 use Rattle.event.proofs.RowCodes.{codes-row}
-use Rattle.s800_layout.specs.Event.{Datum, Trigger, Pair, Samples, Crdc, Registers, Hodoscope, energies, hits, Adc, Form, trigger, timeOfFlight, scintillator, ionChamber, crdc, hodoscope, objectPin, vmeAdc, opaque, Content, Packet, Stamp, Number, stampTag, numberTag, tag, hitsId, largestId, idOf, patternBound, ChannelFormat, triggerTime, flightTime, pairEnergy, energy16, adcEnergy, SampleHead, SampleDatum, Group}
-use Rattle.s800_layout.specs.Layout.{lowestFirst, stampRow, numberRow, datumRow, pairRows, registerRow, anodeRow, contentRows, packetRows, stampChecks, numberChecks, idChecks, datumChecks, anodeChecks, registerChecks, channels, pairChannels, ValidDatum, ValidData, ValidPair, ValidContent, sampleHeadRow, sampleDatumRow, groupRows, sampleHeadChecks, sampleDatumChecks, above, ValidSampleDatum, hasData, ValidGroup}
-use Rattle.s800_layout.specs.Writing.{ofTag, atPacket, datumBelow, datumOf, datum, channelRows, pair, samples, anode, registers, hitsContent, energiesContent, content, Header, headerOf, headerRow, header, packet, ownRow, chunksOf, stampOf, stampPacket, numberOf, numberPacket, sampleHeadOf, sampleDatumOf, sampleDatum, afterData, group}
+use Rattle.s800_layout.specs.Event.{Datum, Trigger, Pair, Samples, Crdc, Registers, Hodoscope, energies, hits, Adc, Form, trigger, timeOfFlight, scintillator, ionChamber}
+use Rattle.s800_layout.specs.Event.{crdc, hodoscope, objectPin, vmeAdc, opaque, Content, Packet, Stamp, Number, stampTag, numberTag, tag, hitsId, largestId, idOf}
+use Rattle.s800_layout.specs.Event.{patternBound, ChannelFormat, triggerTime, flightTime, pairEnergy, energy16, adcEnergy, SampleHead, SampleDatum}
+use Rattle.s800_layout.specs.Layout.{lowestFirst, stampRow, numberRow, datumRow, pairRows, registerRow, anodeRow, contentRows, packetRows, stampChecks, numberChecks}
+use Rattle.s800_layout.specs.Layout.{idChecks, datumChecks, anodeChecks, registerChecks, channels, pairChannels, ValidDatum, ValidData, ValidPair, ValidContent}
+use Rattle.s800_layout.specs.Layout.{sampleHeadRow, sampleDatumRow, groupRows, sampleHeadChecks, sampleDatumChecks, ValidSampleDatum, hasData, ValidGroup}
+use Rattle.s800_layout.specs.Writing.{ofTag, atPacket, datumBelow, datumOf, datum, channelRows, pair, samples, anode, registers, hitsContent, energiesContent, content}
+use Rattle.s800_layout.specs.Writing.{Header, headerOf, headerRow, header, packet, ownRow, chunksOf, stampOf, stampPacket, numberOf, numberPacket, sampleHeadOf}
+use Rattle.s800_layout.specs.Writing.{sampleDatumOf, sampleDatum, afterData, group}
 use Rattle.s800_layout.proofs.Lengths.{form-back}
 use Rattle.s800_layout.proofs.Groups.{codes-grouped}
 

@@ -7,12 +7,17 @@ use mathlib.Core.Bool.{Bool, true, false, _||_}
 use mathlib.Core.List.{List, [], _∷_, map}
 use lib.Dec.{T, ltb, eqb, ltb→lt, lt→ltb, leb→le}
 use borrow.Author.Tests.{eqb-true}
-use Rattle.event.specs.Parser.{Passed, All, member, alone}
+use Rattle.event.specs.Parser.{All, member, alone}
 use Rattle.event.specs.Demands.{InWidth}
 use Rattle.event.proofs.Elements.{all-goods}
 use Rattle.event.proofs.Width.{Narrow, Fit, known, word, joined, wholes, items, item-words}
-use Rattle.s800_layout.specs.Event.{Datum, Pair, energies, hits, Opaque, focalPlaneTime, intermediateCrdc, targetPin, intermediateTrack, intermediatePpac, objectScintillator, Form, trigger, timeOfFlight, scintillator, ionChamber, crdc, hodoscope, objectPin, vmeAdc, opaque, Content, Run, end, plain, Event, eventTag, stampTag, numberTag, energiesTag, samplesTag, anodeTag, tag, ChannelFormat, triggerTime, flightTime, pairEnergy, energy16, adcEnergy, SampleDatum, Group}
-use Rattle.s800_layout.specs.Layout.{framed, channelWord, datumWord, pairWords, anodeWords, registerWords, contentWords, runWords, stampWords, numberWords, version, words, channels, pairChannels, ValidDatum, ValidData, ValidPair, ValidContent, ValidRun, Valid, sampleHeadWord, sampleDatumWord, groupWords, above, ValidSampleDatum, ValidGroup}
+use Rattle.s800_layout.specs.Event.{Datum, Pair, energies, hits, Opaque, focalPlaneTime, intermediateCrdc, targetPin, intermediateTrack, intermediatePpac, objectScintillator}
+use Rattle.s800_layout.specs.Event.{Form, trigger, timeOfFlight, scintillator, ionChamber, crdc, hodoscope, objectPin, vmeAdc, opaque, Content, Run, end, plain, Event}
+use Rattle.s800_layout.specs.Event.{eventTag, stampTag, numberTag, energiesTag, samplesTag, anodeTag, tag, ChannelFormat, triggerTime, flightTime, pairEnergy, energy16}
+use Rattle.s800_layout.specs.Event.{adcEnergy, SampleDatum, Group}
+use Rattle.s800_layout.specs.Layout.{framed, channelWord, datumWord, pairWords, anodeWords, registerWords, contentWords, runWords, stampWords, numberWords, version, words}
+use Rattle.s800_layout.specs.Layout.{channels, pairChannels, ValidDatum, ValidData, ValidPair, ValidContent, ValidRun, Valid, sampleHeadWord, sampleDatumWord, groupWords}
+use Rattle.s800_layout.specs.Layout.{above, ValidSampleDatum, ValidGroup}
 
 ruleset tests = (arith, ltb→lt, leb→le, lt→ltb)
 

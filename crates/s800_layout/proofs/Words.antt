@@ -15,9 +15,16 @@ use Rattle.event.proofs.Codes.{Codes, any, At, true-T, same, less, codes-here, 
 use Rattle.event.proofs.Sequences.{codes-bind, codes-map, codes-image}
 use Rattle.event.proofs.Many.{codes-many}
 use Rattle.event.proofs.Elements.{codes-layout, codes-exactly, codes-any, codes-below, prints-map, prints-each, codes-several, each-alone, codes-several-at}
-use Rattle.s800_layout.specs.Event.{Datum, Trigger, Pair, SampleHead, SampleDatum, Samples, Anode, Crdc, Registers, Hodoscope, energies, hits, Adc, Form, trigger, timeOfFlight, scintillator, ionChamber, crdc, hodoscope, objectPin, vmeAdc, opaque, Content, Packet, Stamp, Number, stampTag, numberTag, energiesTag, samplesTag, anodeTag, tag, formOf, idOf, patternBound, ChannelFormat, triggerTime, flightTime, pairEnergy, energy16, adcEnergy, Group}
-use Rattle.s800_layout.specs.Layout.{framed, channelWord, datumWord, pairWords, sampleHeadWord, sampleDatumWord, samplesWords, anodeWords, registerWords, contentWords, packetWords, stampWords, numberWords, stampChecks, numberChecks, idChecks, datumChecks, sampleHeadChecks, sampleDatumChecks, anodeChecks, registerChecks, channels, pairChannels, ValidDatum, ValidData, ValidPair, ValidContent, groupWords, above, ValidSampleDatum, hasData, ValidGroup}
-use Rattle.s800_layout.specs.Reading.{allowedLength, packetOf, inner, whole, idWord, datumOf, datum, channelWords, pair, sampleHeadOf, sampleDatumOf, samples, anode, registers, hitsContent, energiesContent, content, packet, stampPacket, numberPacket, sampleDatum, atHead, group}
+use Rattle.s800_layout.specs.Event.{Datum, Trigger, Pair, SampleHead, SampleDatum, Samples, Anode, Crdc, Registers, Hodoscope, energies, hits, Adc, Form, trigger}
+use Rattle.s800_layout.specs.Event.{timeOfFlight, scintillator, ionChamber, crdc, hodoscope, objectPin, vmeAdc, opaque, Content, Packet, Stamp, Number, stampTag, numberTag}
+use Rattle.s800_layout.specs.Event.{energiesTag, samplesTag, anodeTag, tag, formOf, idOf, patternBound, ChannelFormat, triggerTime, flightTime, pairEnergy, energy16}
+use Rattle.s800_layout.specs.Event.{adcEnergy, Group}
+use Rattle.s800_layout.specs.Layout.{framed, channelWord, datumWord, pairWords, sampleHeadWord, sampleDatumWord, samplesWords, anodeWords, registerWords, contentWords}
+use Rattle.s800_layout.specs.Layout.{packetWords, stampWords, numberWords, stampChecks, numberChecks, idChecks, datumChecks, sampleHeadChecks, sampleDatumChecks, anodeChecks}
+use Rattle.s800_layout.specs.Layout.{registerChecks, channels, pairChannels, ValidDatum, ValidData, ValidPair, ValidContent, groupWords, ValidSampleDatum, hasData}
+use Rattle.s800_layout.specs.Layout.{ValidGroup}
+use Rattle.s800_layout.specs.Reading.{allowedLength, packetOf, inner, whole, idWord, datumOf, datum, channelWords, pair, sampleHeadOf, sampleDatumOf, samples, anode}
+use Rattle.s800_layout.specs.Reading.{registers, hitsContent, energiesContent, content, packet, stampPacket, numberPacket, sampleDatum, atHead, group}
 use Rattle.s800_layout.proofs.Lengths.{length-allowed, form-back}
 use Rattle.s800_layout.proofs.Groups.{codes-grouped}
 

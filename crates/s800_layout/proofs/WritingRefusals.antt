@@ -14,7 +14,8 @@ use Rattle.event.specs.Writing.{RefusedAt}
 use Rattle.event.specs.Writing.{atKind}
 use Rattle.event.proofs.Refusals.{either, keeps-give, keeps-left, keeps-bind, keeps-map, keeps-next, keeps-checked}
 use Rattle.event.proofs.WritingRefusals.{Writes, Takes, takes-row, writes-many, writing-refused}
-use Rattle.s800_layout.specs.Event.{Form, trigger, timeOfFlight, scintillator, ionChamber, crdc, hodoscope, objectPin, vmeAdc, opaque, hitsId, ChannelFormat, triggerTime, flightTime, energy16, adcEnergy}
+use Rattle.s800_layout.specs.Event.{Form, trigger, timeOfFlight, scintillator, ionChamber, crdc, hodoscope, objectPin, vmeAdc, opaque, hitsId, ChannelFormat, triggerTime}
+use Rattle.s800_layout.specs.Event.{flightTime, energy16, adcEnergy}
 use Rattle.s800_layout.specs.Layout.{words, largestEvent, channels, pairChannels, above, hasData}
 use Rattle.s800_layout.specs.Writing.{atPacket, datumBelow, datum, channelRows, pair, samples, content, packet, stampPacket, numberPacket, eventRowsUpTo, writing, sampleDatum, afterData, group}
 

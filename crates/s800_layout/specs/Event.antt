@@ -1,4 +1,4 @@
--- Dialect S as data: one S800 event, version 5, before any word or row is written (documents 000 and 01).
+-- Dialect S as data: one S800 event, version 5, before any word or row is written (documents 000, 01 and 02).
 -- Assumes nothing.
 use Prim.Native.Nat.{ℕ, zero, suc, _^_}
 use mathlib.Core.List.{List, [], _∷_, _++_, map}

@@ -1,6 +1,6 @@
--- Dialect S: the words and the rows of an event, and the rules that a valid one keeps (document 01).
+-- Dialect S: the words and the rows of an event, and the rules that a valid one keeps (documents 01 and 02).
 -- Assumes nothing.
-use Prim.Native.Nat.{ℕ, suc, _+_, _*_, _/_, _%_, _^_}
+use Prim.Native.Nat.{ℕ, suc, _+_, _*_, _/_, _^_}
 use mathlib.Core.Bool.{Bool, not}
 use mathlib.Core.List.{List, [], _∷_, _++_, map}
 use lib.Dec.{T, ltb, leb}
@@ -12,7 +12,10 @@ use Rattle.event.specs.Parser.{Test, test, Passed, Goods, All, each, ended, fre
 use Rattle.event.specs.Words.{halves, belowChecks}
 use Rattle.event.specs.Rows.{row}
 use Rattle.event.specs.Demands.{Sized}
-use Rattle.s800_layout.specs.Event.{Datum, Pair, SampleHead, SampleDatum, Group, Samples, Anode, Registers, energies, hits, Form, trigger, timeOfFlight, scintillator, ionChamber, crdc, hodoscope, objectPin, vmeAdc, opaque, Content, Packet, Run, end, plain, Stamp, Number, Event, eventTag, stampTag, numberTag, energiesTag, samplesTag, anodeTag, tag, hitsId, largestId, idOf, patternBound, ChannelFormat, triggerTime, flightTime, pairEnergy, energy16, adcEnergy}
+use Rattle.s800_layout.specs.Event.{Datum, Pair, SampleHead, SampleDatum, Group, Samples, Anode, Registers, energies, hits, Form, trigger, timeOfFlight, scintillator}
+use Rattle.s800_layout.specs.Event.{ionChamber, crdc, hodoscope, objectPin, vmeAdc, opaque, Content, Packet, Run, end, plain, Stamp, Number, Event, eventTag, stampTag}
+use Rattle.s800_layout.specs.Event.{numberTag, energiesTag, samplesTag, anodeTag, tag, hitsId, largestId, idOf, patternBound, ChannelFormat, triggerTime, flightTime}
+use Rattle.s800_layout.specs.Event.{pairEnergy, energy16, adcEnergy}
 
 -- Words.
 
@@ -161,7 +164,7 @@ runRows (plain q r) = packetRows q ++ runRows r
 abbrev pub rows : StampOrder → Event → List Row
 rows o e = packetRow stampTag 0 ∷ stampRow o (e .stamp) ∷ packetRow numberTag 0 ∷ numberRow (e .number) ∷ runRows (e .run)
 
--- Rules. `n` is the refusal number of a field out of range, `m` that of a repeated channel.
+-- Rules. `n` is the refusal number of a field out of range, or of a connector that does not rise, `m` that of a repeated channel.
 
 abbrev pub stampChecks : ℕ → Stamp → List Test
 stampChecks n s = test n (ltb (s .chunk0) (2 ^ 16)) ∷ test n (ltb (s .chunk1) (2 ^ 16)) ∷ test n (ltb (s .chunk2) (2 ^ 16)) ∷ test n (ltb (s .chunk3) (2 ^ 16)) ∷ []
@@ -188,7 +191,7 @@ above least d = suc (d .connector)
 abbrev pub ValidSampleDatum : ℕ → SampleDatum → Type 0
 ValidSampleDatum least d = Passed (sampleDatumChecks 0 least d)
 
--- one data word at least (that there are at most four follows: proofs/Lengths)
+-- one data word at least (that there are at most four follows: proofs/Groups)
 abbrev pub hasData : Group → Bool
 hasData g = not (ended (g .energies))
 

@@ -1,6 +1,6 @@
--- Reading one event of dialect S: its rows, or the first refusal and its place. Each line is a rule, in the order of document 01.
+-- Reading one event of dialect S: its rows, or the first refusal and its place. Each line is a rule, in the order of documents 01 and 02.
 -- (On 16-bit words some tests never fail, and stand here because the same tables serve `Valid`: that a word is below 2 ^ 16, that a field is as
--- wide as its bits, that a word with fields in all its bits is the one they print; that an inner packet of the right length fits.)
+-- wide as its bits (but a data word's connector: that test is the one of bits 14-12), that a word with fields in all its bits is the one they print; that an inner packet of the right length fits.)
 -- Assumes nothing.
 use Prim.Native.Nat.{ℕ, _-_, _/_, _%_, _^_}
 use mathlib.Core.Bool.{Bool, true, cond, _&&_}
@@ -12,8 +12,12 @@ use Rattle.event.specs.declared.StampOrder.{StampOrder}
 use Rattle.event.specs.Parser.{Parser, ended, _>>=_, _>>_, give, here, require, within, checked, many, several}
 use Rattle.event.specs.Words.{layout, exactly, anyWord, between, belowChecks, wordBelow}
 use Rattle.event.specs.Outcome.{Outcome, done, outcome}
-use Rattle.s800_layout.specs.Event.{Datum, Pair, SampleHead, SampleDatum, Group, Samples, Anode, Registers, Hodoscope, energies, hits, Form, trigger, timeOfFlight, scintillator, ionChamber, crdc, hodoscope, objectPin, vmeAdc, opaque, Content, Packet, Run, runOf, Stamp, Number, Event, eventTag, stampTag, numberTag, energiesTag, samplesTag, anodeTag, tag, formOf, hitsId, patternBound, ChannelFormat, triggerTime, flightTime, pairEnergy, energy16, adcEnergy}
-use Rattle.s800_layout.specs.Layout.{channelWord, datumWord, sampleHeadWord, sampleDatumWord, version, rows, smallestEvent, largestEvent, idChecks, datumChecks, sampleHeadChecks, sampleDatumChecks, above, hasData, channels, pairChannels}
+use Rattle.s800_layout.specs.Event.{Datum, Pair, SampleHead, SampleDatum, Group, Samples, Anode, Registers, Hodoscope, energies, hits, Form, trigger, timeOfFlight}
+use Rattle.s800_layout.specs.Event.{scintillator, ionChamber, crdc, hodoscope, objectPin, vmeAdc, opaque, Content, Packet, Run, runOf, Stamp, Number, Event, eventTag}
+use Rattle.s800_layout.specs.Event.{stampTag, numberTag, energiesTag, samplesTag, anodeTag, tag, formOf, hitsId, patternBound, ChannelFormat, triggerTime, flightTime}
+use Rattle.s800_layout.specs.Event.{pairEnergy, energy16, adcEnergy}
+use Rattle.s800_layout.specs.Layout.{channelWord, datumWord, sampleHeadWord, sampleDatumWord, version, rows, smallestEvent, largestEvent, idChecks, datumChecks}
+use Rattle.s800_layout.specs.Layout.{sampleHeadChecks, sampleDatumChecks, above, hasData, channels, pairChannels}
 
 abbrev pub even : ℕ → Bool
 even n = eqb (n % 2) 0

@@ -1,4 +1,4 @@
--- Writing one event of dialect S from its rows: its words, or the first refusal and its place. Each line is a rule, in the order of document 01.
+-- Writing one event of dialect S from its rows: its words, or the first refusal and its place. Each line is a rule, in the order of documents 01 and 02.
 -- (A row's parser has its kind, its fields and their rules, each with its number: 21 for a row that may not stand there and for rows that end, 22 for its fields. Some
 -- tests never fail on 32-bit fields, and stand here because the same tables serve `Valid`: that a chunk of a stamp, or a low one of an event number, is below 2 ^ 16.)
 -- Assumes nothing.
@@ -13,8 +13,12 @@ use Rattle.event.specs.Words.{belowChecks}
 use Rattle.event.specs.Rows.{row}
 use Rattle.event.specs.Outcome.{Outcome}
 use Rattle.event.specs.Writing.{rowWith, ofKind, atKind, writingBy}
-use Rattle.s800_layout.specs.Event.{Datum, Pair, SampleHead, SampleDatum, Group, Samples, Anode, Registers, Hodoscope, energies, hits, Form, trigger, timeOfFlight, scintillator, ionChamber, crdc, hodoscope, objectPin, vmeAdc, opaque, Content, Packet, Stamp, Number, Event, stampTag, numberTag, tag, formOf, hitsId, patternBound, ChannelFormat, triggerTime, flightTime, pairEnergy, energy16, adcEnergy}
-use Rattle.s800_layout.specs.Layout.{words, lowestFirst, packetRow, stampRow, numberRow, datumRow, hodoscopeBase, adcBase, padConnector, sampleHeadRow, sampleDatumRow, registerRow, anodeRow, largestEvent, stampChecks, numberChecks, idChecks, datumChecks, sampleHeadChecks, sampleDatumChecks, above, hasData, anodeChecks, registerChecks, channels, pairChannels}
+use Rattle.s800_layout.specs.Event.{Datum, Pair, SampleHead, SampleDatum, Group, Samples, Anode, Registers, Hodoscope, energies, hits, Form, trigger, timeOfFlight}
+use Rattle.s800_layout.specs.Event.{scintillator, ionChamber, crdc, hodoscope, objectPin, vmeAdc, opaque, Content, Packet, Stamp, Number, Event, stampTag, numberTag, tag}
+use Rattle.s800_layout.specs.Event.{formOf, hitsId, patternBound, ChannelFormat, triggerTime, flightTime, pairEnergy, energy16, adcEnergy}
+use Rattle.s800_layout.specs.Layout.{words, lowestFirst, packetRow, stampRow, numberRow, datumRow, hodoscopeBase, adcBase, padConnector, sampleHeadRow, sampleDatumRow}
+use Rattle.s800_layout.specs.Layout.{registerRow, anodeRow, largestEvent, stampChecks, numberChecks, idChecks, datumChecks, sampleHeadChecks, sampleDatumChecks, above}
+use Rattle.s800_layout.specs.Layout.{hasData, anodeChecks, registerChecks, channels, pairChannels}
 use Rattle.s800_layout.specs.Reading.{runUpTo, eventOf}
 
 -- a packet's own row, of kind 1, with the tag t

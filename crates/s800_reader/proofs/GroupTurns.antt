@@ -1,28 +1,27 @@
 -- The loops over the words of a CRDC's groups: what they have reached, and one turn each. Over plain values.
 -- Assumes nothing.
 use Prim.Native.Nat.{ℕ, suc, _+_, _-_, _/_, _^_, _≤_, _<_}
-use native.Mathlib.Nat.{le-refl}
 use native.Mathlib.Numerals.{add-one}
 use native.Mathlib.Omega.{arith}
-use mathlib.Core.Path.{_≡_, refl, ap, sym, _∙_, subst}
+use mathlib.Core.Path.{_≡_, refl, sym, _∙_, subst}
 use mathlib.Core.Bool.{Bool, true, false, cond, _&&_, _||_}
 use mathlib.Core.List.{List, [], _∷_, _++_, append-assoc, append-nil}
 use lib.Dec.{ltb, leb, eqb}
 use lib.ListN.{length, getD, length-append}
 use lib.Seq.{slice, slice-empty}
 use borrow.Author.Tests.{eqb-true, eqb-false, lt-ltb, le-ltb, ltb-true, ltb-false, le-leb, lt-leb, leb-true, leb-false}
-use Rattle.event.specs.declared.Answer.the-variants.{Accepted, Refused}
+use Rattle.event.specs.declared.Answer.the-variants.{Refused}
 use Rattle.event.specs.declared.Row.{Row}
-use Rattle.event.specs.Parser.{Result, ok, refuse, then, give, each}
+use Rattle.event.specs.Parser.{ok, refuse, then, give, each}
 use Rattle.event.specs.Rows.{storeRow}
-use Rattle.event.specs.Scanning.{storeRows, Scanned, Leads}
+use Rattle.event.specs.Scanning.{storeRows, Leads}
 use Rattle.event.proofs.Impossible.{impossible}
 use Rattle.event.proofs.Leads.{leads-part, leads-trans, scanned-refuse, scanned-none, refused-scan, store-append}
 use Rattle.event.proofs.Turns.{at-word}
 use Rattle.s800_layout.specs.Layout.{sampleHeadRow, sampleDatumRow, groupRows}
 use Rattle.s800_layout.specs.Reading.{sampleHeadOf, sampleDatumOf}
-use Rattle.s800_reader.specs.Groups.{isHead, headAfter, follows, wordRow, wordRows, groupsIn, Judged}
-use Rattle.s800_reader.proofs.GroupWords.{Rest, restRows, rest, withHead, withDatum, leads-begin, head-again, head-taken, datum-high, datum-falls, datum-taken, end-short, end-reached}
+use Rattle.s800_reader.specs.Groups.{isHead, follows, wordRow, wordRows, groupsIn, Judged}
+use Rattle.s800_reader.proofs.GroupWords.{Rest, restRows, rest, withHead, withDatum, leads-begin, head-again, head-taken, datum-high, datum-falls, datum-taken, end-reached}
 
 -- the least connector of a data word after this word
 abbrev pub leastAfter : ℕ → ℕ

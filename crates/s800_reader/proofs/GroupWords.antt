@@ -65,7 +65,8 @@ module _ (i w : ℕ) (s : List ℕ) (h : 2 ^ 15 ≤ w) where
     pub head-taken : (least p : ℕ) → (least ≡ 0 → ⊥) → rest least p i (w ∷ s) ≡ then (λ r. give (withHead w r)) (rest 0 i (suc i) s)
     head-taken least p n = at-head least p i (w ∷ s) n (le-leb (2 ^ 15) w h) ∙ rw (several-step i w s, head-read) (go (many sampleDatum above atHead 0 (suc i) s))
       where
-        go : (x : Result ℕ (List SampleDatum)) → then (λ gs. give (ahead gs)) (then (λ g. several group ended >>= λ gs. give (g ∷ gs)) (then (λ xs. checked hasData 10 i (record { head = sampleHeadOf w; energies = xs })) x))
+        go : (x : Result ℕ (List SampleDatum))
+            → then (λ gs. give (ahead gs)) (then (λ g. several group ended >>= λ gs. give (g ∷ gs)) (then (λ xs. checked hasData 10 i (record { head = sampleHeadOf w; energies = xs })) x))
             ≡ then (λ r. give (withHead w r)) (then (afterData 0 i) x)
         go (refuse m k) = refl
         go (ok [] j r) = refl
@@ -110,9 +111,6 @@ module _ (least p i w : ℕ) (s : List ℕ) (h : w < 2 ^ 15) where
           first false = others (several group ended j r)
 
 -- at the end
-pub end-short : (p i : ℕ) → rest 0 p i [] ≡ refuse 10 p
-end-short p i = refl
-
 pub end-reached : (least p i : ℕ) → (least ≡ 0 → ⊥) → rest least p i [] ≡ ok (ahead []) i []
 end-reached least p i n = at-head least p i [] n refl
 

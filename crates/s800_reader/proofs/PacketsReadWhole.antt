@@ -12,11 +12,10 @@ use lib.Seq.{slice, slice-empty}
 use borrow.Author.Tests.{eq-eqb, ne-eqb, le-leb, lt-leb}
 use Rattle.event.specs.declared.Answer.{Answer}
 use Rattle.event.specs.declared.Answer.the-variants.{Accepted, Refused}
-use Rattle.event.specs.declared.Row.{Row}
 use Rattle.event.specs.Parser.{Result, ok, refuse, Parser, then, _>>=_, give, ended, filled, many, several, each, alone}
 use Rattle.event.specs.Rows.{row, storeRow}
 use Rattle.event.specs.Scanning.{storeRows, Scanned, Leads}
-use Rattle.event.proofs.Elements.{each-map, codes-several}
+use Rattle.event.proofs.Elements.{each-map}
 use Rattle.event.proofs.Ends.{ends-many}
 use Rattle.event.proofs.Leads.{leads-part, then-then, refused-scan, scanned-refuse, store-append}
 use Rattle.event.proofs.Loops.{at-end}
@@ -28,7 +27,7 @@ use Rattle.s800_layout.proofs.Words.{codes-groups}
 use Rattle.s800_reader.specs.declared.Opened.{Opened}
 use Rattle.s800_reader.specs.declared.Opened.the-variants as opened
 use Rattle.s800_reader.specs.Channel.{opaqueRows, anodeRows, NoMore}
-use Rattle.s800_reader.specs.Opening.{PacketAt, CrdcHead, crdcHeadRows, openedOf, restOf, OpensAs}
+use Rattle.s800_reader.specs.Opening.{PacketAt, CrdcFront, crdcFrontRows, openedOf, restOf, OpensAs}
 use Rattle.s800_reader.proofs.Inner.{inner-length, inner-tag, inner-read}
 use Rattle.s800_reader.proofs.Runs.{read-whole}
 use Rattle.s800_reader.proofs.ChannelPackets.{first-word}
@@ -111,9 +110,19 @@ packed x = then (λ c. give (record { form = crdc; content = c })) x
 abbrev afterSamples : ℕ → Samples → Parser ℕ Crdc
 afterSamples id xs = inner 4 anodeTag anode >>= λ a. give (record { id = id; samples = xs; anode = a })
 
--- the samples of a CRDC's packet
+-- the groups of a CRDC's packet
 abbrev samplesFrom : List ℕ → (start n : ℕ) → Result ℕ (List Group)
 samplesFrom ws start n = several group ended (start + 6) (slice (start + 6) (start + n - 4) ws)
+
+-- the rows up to the threshold, stored one after the other
+pub front-stored : (ws : List ℕ) (start k : ℕ) (b : List ℕ) {id threshold : ℕ} {b₁ b₂ : List ℕ} → b₁ ≡ storeRow b k (packetRow (tag crdc) id) → b₂ ≡ storeRow b₁ (k + 1) (row 7 0 0 threshold)
+    → id ≡ getD ws (start + 2) 0 → threshold ≡ getD ws (start + 5) 0 → b₂ ≡ storeRows b k (crdcFrontRows ws start)
+front-stored ws start k b p t i d = t ∙ rw (p, i, d)
+
+-- the packet from its threshold on
+abbrev afterFront : List ℕ → (start n id : ℕ) → Result ℕ Packet
+afterFront ws start n id =
+    packed (then (afterSamples id) (filled (slice (start + n - 4) (start + n) ws) (then (λ xs. give (record { threshold = getD ws (start + 5) 0; groups = xs })) (samplesFrom ws start n))))
 
 module _ {ws : List ℕ} {start n k : ℕ} (s : PacketAt ws start n k) (least : 10 ≤ n) {id : ℕ} (a : id ≡ getD ws (start + 2) 0) where
   allowed : allowedLength crdc n ≡ true
@@ -142,8 +151,7 @@ module _ {ws : List ℕ} {start n k : ℕ} (s : PacketAt ws start n k) (least : 
       crdc-tag z q = opens-refused crdc q
           (id-read ∙ rw (inner-tag (n - 7) samplesTag samples (start + 3) (start + n) ws (omega arith) (omega arith) (s .inside) c l (rw four d) z, four))
 
-      head-read : w ≡ samplesTag → getD ws (start + 5) 0 < 2 ^ 16
-          → restOf crdc ws start n ≡ packed (then (afterSamples id) (filled (slice (start + n - 4) (start + n) ws) (then (λ xs. give (record { threshold = getD ws (start + 5) 0; groups = xs })) (samplesFrom ws start n))))
+      head-read : w ≡ samplesTag → getD ws (start + 5) 0 < 2 ^ 16 → restOf crdc ws start n ≡ afterFront ws start n id
       head-read z f =
           let five : start + 3 + 2 ≡ start + 5 = omega arith in
           let six : start + 5 + 1 ≡ start + 6 = omega arith in
@@ -157,40 +165,40 @@ module _ {ws : List ℕ} {start n k : ℕ} (s : PacketAt ws start n k) (least : 
           )
 
 -- the rest of it
-module _ {ws : List ℕ} {start n : ℕ} (h : CrdcHead ws start n) (long : start + n ≤ length ws) where
-  head-passed : restOf crdc ws start n
-      ≡ packed (then (afterSamples (getD ws (start + 2) 0)) (filled (slice (start + n - 4) (start + n) ws) (then (λ xs. give (record { threshold = getD ws (start + 5) 0; groups = xs })) (samplesFrom ws start n))))
+module _ {ws : List ℕ} {start n : ℕ} (h : CrdcFront ws start n) (long : start + n ≤ length ws) where
+  head-passed : restOf crdc ws start n ≡ afterFront ws start n (getD ws (start + 2) 0)
   head-passed =
       let least = h .least in
       head-read (record { two = omega arith; inside = long; few = le-refl start }) least refl (h .id) refl (h .samplesLength) refl (h .itsTag) (h .threshold)
 
-  -- samples refused
+  -- groups refused
   pub crdc-refused : {k : ℕ} {b b₁ after : List ℕ} {a : Answer} {m p : ℕ} {r : Opened} → Scanned (each groupRows) (samplesFrom ws start n) (k + 2) b₁ a after → a ≡ Refused m p
       → r ≡ openedOf (start + n) a → OpensAs crdc ws start n k b after r
   crdc-refused {m = m} {p = p} t q e =
       let x : samplesFrom ws start n ≡ refuse m p = refused-scan (each groupRows) (samplesFrom ws start n) (rw q at t) in
       opens-refused crdc (e ∙ ap (openedOf (start + n)) q) (head-passed ∙ rw x)
 
-  -- samples read: the anode is left
+  -- groups read: the anode is left
   sampled : (xs : List Group) → samplesFrom ws start n ≡ ok xs (start + n - 4) [] → restOf crdc ws start n
       ≡ then (λ a. give (record { form = crdc; content = record { id = getD ws (start + 2) 0; samples = record { threshold = getD ws (start + 5) 0; groups = xs }; anode = a } }))
       (inner 4 anodeTag anode (start + n - 4) (slice (start + n - 4) (start + n) ws))
   sampled xs e = head-passed ∙ rw e (then-then (inner 4 anodeTag anode (start + n - 4) (slice (start + n - 4) (start + n) ws)) _ _)
 
-  anode-leads : {k k₁ : ℕ} {b b₁ b₂ : List ℕ} → b₁ ≡ storeRows b k (crdcHeadRows ws start) → (x : Result ℕ (List Group)) → samplesFrom ws start n ≡ x → Scanned (each groupRows) x (k + 2) b₁ (Accepted k₁) b₂
+  anode-leads : {k k₁ : ℕ} {b b₁ b₂ : List ℕ} → b₁ ≡ storeRows b k (crdcFrontRows ws start) → (x : Result ℕ (List Group)) → samplesFrom ws start n ≡ x
+      → Scanned (each groupRows) x (k + 2) b₁ (Accepted k₁) b₂
       → Leads anodeRows (inner 4 anodeTag anode (start + n - 4) (slice (start + n - 4) (start + n) ws)) k₁ b₂ packetRows (restOf crdc ws start n) k b
   anode-leads q (refuse m p) e t = let f = t .answered in impossible cc
   anode-leads {k} {k₁} {b} {b₁} {b₂} q (ok xs j r) e t =
       let least = h .least in
-      let before = crdcHeadRows ws start ++ each groupRows xs in
+      let before = crdcFrontRows ws start ++ each groupRows xs in
       let f = t .answered in
       let p : k₁ ≡ k + length before = let c : k₁ ≡ k + 2 + length (each groupRows xs) = cc in omega arith in
-      let u : b₂ ≡ storeRows b k before = t .stored ∙ rw q (sym (store-append storeRow b k (crdcHeadRows ws start) (each groupRows xs))) in
+      let u : b₂ ≡ storeRows b k before = t .stored ∙ rw q (sym (store-append storeRow b k (crdcFrontRows ws start) (each groupRows xs))) in
       let w = at-end codes-groups (ends-many ended (λ u. group) alone tt) (start + 6) (start + n - 4) ws (omega arith) (omega arith) xs j r e in
       rw (p, u, sampled xs w) (leads-part before anodeRows (inner 4 anodeTag anode (start + n - 4) (slice (start + n - 4) (start + n) ws)) _ packetRows k b
       (λ a. refl))
 
-  pub crdc-whole : {k k₁ : ℕ} {b b₁ b₂ after : List ℕ} {s a : Answer} {r : Opened} → b₁ ≡ storeRows b k (crdcHeadRows ws start)
+  pub crdc-whole : {k k₁ : ℕ} {b b₁ b₂ after : List ℕ} {s a : Answer} {r : Opened} → b₁ ≡ storeRows b k (crdcFrontRows ws start)
       → Scanned (each groupRows) (samplesFrom ws start n) (k + 2) b₁ s b₂ → s ≡ Accepted k₁
       → Scanned anodeRows (inner 4 anodeTag anode (start + n - 4) (slice (start + n - 4) (start + n - 4 + 4) ws)) k₁ b₂ a after × NoMore (start + n - 4 + 4) a
       → r ≡ openedOf (start + n) a → OpensAs crdc ws start n k b after r

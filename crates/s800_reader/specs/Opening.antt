@@ -1,6 +1,6 @@
 -- What the first words of a packet lead to (the contracts of private functions).
 -- Assumes nothing.
-use Prim.Native.Nat.{ℕ, _+_, _-_, _%_, _^_, _≤_, _<_}
+use Prim.Native.Nat.{ℕ, _+_, _-_, _^_, _≤_, _<_}
 use mathlib.Core.Path.{_≡_}
 use mathlib.Core.List.{List, [], _∷_}
 use lib.ListN.{length, getD, drop}
@@ -37,15 +37,15 @@ pub record HodoscopeHits (ws : List ℕ) (start n : ℕ) : Type 0 where
   pub id : getD ws (start + 2) 0 ≡ hitsId
 
 -- a CRDC's packet, of a length that its tag allows, right up to its threshold; the rows up to there
-pub record CrdcHead (ws : List ℕ) (start n : ℕ) : Type 0 where
+pub record CrdcFront (ws : List ℕ) (start n : ℕ) : Type 0 where
   pub least : 10 ≤ n
   pub id : getD ws (start + 2) 0 ≤ largestId crdc
   pub samplesLength : getD ws (start + 3) 0 ≡ n - 7
   pub itsTag : getD ws (start + 4) 0 ≡ samplesTag
   pub threshold : getD ws (start + 5) 0 < 2 ^ 16
 
-abbrev pub crdcHeadRows : List ℕ → ℕ → List Row
-crdcHeadRows ws start = packetRow (tag crdc) (getD ws (start + 2) 0) ∷ row 7 0 0 (getD ws (start + 5) 0) ∷ []
+abbrev pub crdcFrontRows : List ℕ → ℕ → List Row
+crdcFrontRows ws start = packetRow (tag crdc) (getD ws (start + 2) 0) ∷ row 7 0 0 (getD ws (start + 5) 0) ∷ []
 
 -- a packet whose content was read whole, or refused
 abbrev pub openedOf : ℕ → Answer → Opened

@@ -71,7 +71,7 @@ fn group_fault(words: &[u16], from: usize, end: usize) -> usize
     requires { ⌜ (from ≤ end) × (end ≤ length (now words)) × Judged (now words) from end false ⌝ }
     ensures { λ r. ⌜ groupsIn (now (words .entry)) from end ≡ refuse 10 r ⌝ }
 {
-    // A data word of connector 3: only a head may follow.
+    // As after a data word of connector 3: only a head may come first.
     let mut before: u32 = 0x0c00;
     let mut head = from;
     let mut i = from;
@@ -117,7 +117,7 @@ fn word_row(head: u32, w: u32) -> Row
     let datum = pick(0x8000 <= w, 0, w);
     let under = pick(0x8000 <= w, w, head);
     Row {
-        kind: pick(0x8000 <= w, kind::SAMPLE, kind::SAMPLE_DATUM),
+        kind: pick(0x8000 <= w, kind::SAMPLE_HEAD, kind::SAMPLE_DATUM),
         unit: under / 64 % 512,
         channel: pad((under % 64) as u16, (datum / 1024) as u16),
         datum: datum % 1024,

@@ -1,4 +1,4 @@
-// The packets whose content is read whole: pairs, the samples and the anode of a CRDC (cathode readout drift chamber), opaque words.
+// The packets whose content is read whole: pairs, the groups and the anode of a CRDC (cathode readout drift chamber), opaque words.
 use crate::Opened;
 use crate::content::read_opaque;
 use crate::content::read_pairs;
@@ -26,7 +26,7 @@ ghost use Rattle.event.specs.Scanning.{storeRows, Scanned};
 ghost use Rattle.s800_layout.specs.Event.{Opaque, scintillator, crdc, opaque, anodeTag, tag as tagOf};
 ghost use Rattle.s800_layout.specs.Reading.{inner, anode};
 ghost use Rattle.s800_reader.specs.Channel.{anodeRows, NoMore};
-ghost use Rattle.s800_reader.specs.Opening.{PacketAt, CrdcHead, crdcHeadRows, OpensAs};
+ghost use Rattle.s800_reader.specs.Opening.{PacketAt, CrdcFront, crdcFrontRows, OpensAs};
 
 // 0x5810, an even length of 2 to 14 words: pairs of an energy and a time.
 pub(crate) fn open_scintillator(
@@ -80,10 +80,10 @@ pub(crate) fn open_crdc(
     read_crdc(words, start, size, rows, count + 2)
 }
 
-// The samples and the anode of the CRDC packet at `start`, after the rows of its head.
+// The groups and the anode of the CRDC packet at `start`, after the rows up to its threshold.
 fn read_crdc(words: &[u16], start: usize, size: usize, rows: &mut [u32], count: usize) -> Opened
-    requires { ⌜ CrdcHead (now words) start size × (start + size ≤ length (now words)) × (count ≤ start + 2) ⌝ }
-    ensures { λ r. ⌜ ((k : ℕ) (before : List ℕ) → count ≡ k + 2 → now (rows .entry) ≡ storeRows before k (crdcHeadRows (now (words .entry)) start) → OpensAs crdc (now (words .entry)) start size k before (now (rows .exit)) r) ⌝ }
+    requires { ⌜ CrdcFront (now words) start size × (start + size ≤ length (now words)) × (count ≤ start + 2) ⌝ }
+    ensures { λ r. ⌜ ((k : ℕ) (before : List ℕ) → count ≡ k + 2 → now (rows .entry) ≡ storeRows before k (crdcFrontRows (now (words .entry)) start) → OpensAs crdc (now (words .entry)) start size k before (now (rows .exit)) r) ⌝ }
 {
     let end = start + size;
     let samples = read_samples(words, start + 6, end - 4, rows, count);

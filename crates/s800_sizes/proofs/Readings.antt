@@ -1,4 +1,4 @@
--- Readings of dialect S of about 4,096 words, computed. The expected outcomes are document 01's.
+-- Readings of dialect S of about 4,096 words, computed. The expected outcomes are those of documents 01 and 02.
 -- Assumes nothing.
 use Prim.Native.Nat.{ℕ}
 use mathlib.Core.Path.{_≡_, refl}

@@ -1,4 +1,4 @@
--- The packet of samples and an anode: its inner packets, one after the other. Over plain values.
+-- The packet of groups and an anode: its inner packets, one after the other. Over plain values.
 -- Assumes nothing.
 use Prim.Native.Nat.{ℕ, suc, _+_, _*_, _^_, _≤_, _<_}
 use native.Mathlib.Omega.{arith}
@@ -45,7 +45,7 @@ module _ (rs : List Row) (i : ℕ) {r : Row} (e : r ≡ getD rs i noRow) where
       (writes-done 16 anodeWords (t .1) d four (s ∙ ap (λ (n : ℕ). storeWord 16 b₁ n (r .datum)) three ∙ ap (λ (l : List ℕ). storeWord 16 l (at + 2 + 1) (r .datum)) q) (omega arith) (omega arith))
       p′ c
 
--- the threshold's row, and the samples after it
+-- the threshold's row, and the groups after it
 module _ (id : ℕ) (rs : List Row) (i : ℕ) {r : Row} (e : r ≡ getD rs (i + 1) noRow) where
   pub threshold-refused : {n : ℕ} → n ≡ limitsFault 7 0 0 65535 r → (n ≡ 0 → ⊥) → contentAt crdc id rs i ≡ refuse n (i + 1)
   threshold-refused f z = rw (one-refused 7 0 0 65535 (λ r. r .datum) (row 7 0 0) (belowChecks 22 (2 ^ 16)) (plain-fault 7 65535) refl (λ a. (tt, tt)) rs (i + 1) e f z)
@@ -57,14 +57,16 @@ module _ (id : ℕ) (rs : List Row) (i : ℕ) {r : Row} (e : r ≡ getD rs (i + 
     pub threshold-inside : i + 1 < length rs
     threshold-inside = taken .0
 
-    -- the inner packet of the samples, closed
+    -- the inner packet of the groups, closed
     module _ (b₁ : List ℕ) {b₂ b₃ b₄ : List ℕ} {p p′ : Part} (t : b₂ ≡ storeWord 16 b₁ 5 (r .datum)) (s : Writes 16 (each groupWords) (several group (atKind 9) (i + 2) (drop (i + 2) rs)) rs 6 b₂ p b₃)
         (d : p′ ≡ p) (c : b₄ ≡ closed 3 samplesTag p b₃) where
       inner : Writes 16 (λ s. framed samplesTag (samplesWords s)) (samples (i + 1) (drop (i + 1) rs)) rs 3 b₁ p′ b₄
       inner =
           let two : i + 1 + 1 ≡ i + 2 = omega arith in
           closed-writes samplesWords 3 samplesTag (samples (i + 1) (drop (i + 1) rs))
-          (rw (taken .1, two) (writes-part 16 (each groupWords) (r .datum ∷ []) (several group (atKind 9) (i + 2) (drop (i + 2) rs)) (λ xs. record { threshold = r .datum; groups = xs }) samplesWords (λ xs. refl) refl t s))
+          (rw (taken .1, two)
+          (writes-part 16 (each groupWords) (r .datum ∷ []) (several group (atKind 9) (i + 2) (drop (i + 2) rs)) (λ xs. record { threshold = r .datum; groups = xs })
+          samplesWords (λ xs. refl) refl t s))
           d c
 
       pub samples-refused : {n m : ℕ} → p′ ≡ Refused n m → contentAt crdc id rs i ≡ refuse n m

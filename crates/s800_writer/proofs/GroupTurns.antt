@@ -1,6 +1,6 @@
 -- The loops over the rows of a CRDC's groups: one turn each, over plain values.
 -- Assumes nothing.
-use Prim.Native.Nat.{ℕ, suc, _+_, _*_, _/_, _≤_, _<_}
+use Prim.Native.Nat.{ℕ, _+_, _*_, _/_, _≤_, _<_}
 use native.Mathlib.Omega.{arith}
 use mathlib.Core.Path.{_≡_, refl, ap, _∙_}
 use mathlib.Core.Bool.{true, not}
@@ -10,13 +10,12 @@ use lib.ListN.{length, getD, drop, length-map}
 use Rattle.event.specs.declared.Part.{Part}
 use Rattle.event.specs.declared.Part.the-variants.{Done, Refused}
 use Rattle.event.specs.declared.Row.{Row}
-use Rattle.event.specs.Parser.{Result, ok, refuse, Passed, _>>=_, give, here, checked, then, many, several, each, alone, prints}
+use Rattle.event.specs.Parser.{Result, ok, Passed, _>>=_, give, here, checked, then, many, several, each, alone, prints}
 use Rattle.event.specs.Words.{storeWord}
 use Rattle.event.specs.Scanning.{storeWords, Writes}
 use Rattle.event.specs.Writing.{atKind, noRow}
 use Rattle.event.proofs.Elements.{each-map, prints-map}
 use Rattle.event.proofs.Ends.{placed}
-use Rattle.event.proofs.Impossible.{impossible}
 use Rattle.event.proofs.Many.{many-step, codes-many}
 use Rattle.event.proofs.Turns.{upToStop}
 use Rattle.event.proofs.WritingTurns.{WritesOn, still, run-done, run-refused, run-taken, rows-refused, rows-taken, wrote, unwritten}

@@ -2,7 +2,7 @@
 -- Assumes nothing.
 use Prim.Native.Nat.{ℕ, zero, suc, _+_, _/_, _%_, _≤_, _<_}
 use native.Mathlib.Omega.{arith}
-use mathlib.Core.Path.{_≡_, refl, sym, _∙_}
+use mathlib.Core.Path.{_≡_, refl, sym}
 use mathlib.Core.Bool.{Bool, true, false, not, _&&_}
 use mathlib.Core.List.{List, [], _∷_}
 use lib.Dec.{T, eqb, leb, eqb→eq, ltb→lt, lt→ltb, leb→le, le→leb}
@@ -11,7 +11,6 @@ use borrow.Author.Tests.{eq-eqb, ne-eqb}
 use Rattle.event.specs.declared.Row.{Row}
 use Rattle.event.specs.Parser.{ok, refuse, faultIn}
 use Rattle.event.specs.Writing.{rowTests, ofKind, noRow}
-use Rattle.event.proofs.Elements.{both}
 use Rattle.event.proofs.RowFaults.{Judged, judged, Tested, tested, each-of, three}
 use Rattle.event.proofs.RowJudged.{row-taken, row-refused}
 use Rattle.s800_layout.specs.Event.{SampleHead}

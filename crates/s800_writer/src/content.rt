@@ -13,7 +13,7 @@ use s800_format::Format;
 use s800_format::pair_energies;
 ghost use mathlib.Core.Path.{_≡_};
 ghost use mathlib.Core.List.{[]};
-ghost use Prim.Native.Nat.{_+_, _<_, _≤_, _^_};
+ghost use Prim.Native.Nat.{_+_, _<_, _^_};
 ghost use lib.ListN.{drop};
 ghost use denote.Ref.{now};
 ghost use Rattle.event.specs.Parser.{many, several, each};

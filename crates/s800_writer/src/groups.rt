@@ -22,7 +22,7 @@ ghost use Rattle.s800_layout.specs.Layout.{sampleHeadWord, sampleDatumWord, gro
 ghost use Rattle.s800_layout.specs.Writing.{sampleHeadOf, sampleDatumOf, sampleDatum, afterData, group};
 ghost use Rattle.s800_writer.specs.Rows.{RunAt, sampleDatumWords};
 
-// A good head is neither the anode's row nor past the last one, so the end is looked for only where a row is no head.
+// A good head is neither the anode's row nor past the last one, so the end is looked for only where a row is no good head.
 pub(crate) fn write_samples(rows: &[u32], from: usize, words: &mut [u16], first: usize) -> Part
     requires { ⌜ RunAt (rowsIn (now rows)) from first ⌝ }
     ensures { λ r. ⌜ Writes 16 (each groupWords) (several group (atKind 9) from (drop from (rowsIn (now (rows .entry))))) (rowsIn (now (rows .entry))) first (now (words .entry)) r (now (words .exit)) ⌝ }
@@ -31,7 +31,7 @@ pub(crate) fn write_samples(rows: &[u32], from: usize, words: &mut [u16], first:
     let mut at = first;
     loop {
         let head = row_at(rows, i);
-        let number = limits_fault(head, kind::SAMPLE, 511, 63, 0);
+        let number = limits_fault(head, kind::SAMPLE_HEAD, 511, 63, 0);
         if number != 0 {
             if before_kind(rows, i, kind::ANODE) {
                 return Part::Refused { number, place: i };

@@ -1,4 +1,4 @@
-// The packets of pairs, of samples and an anode, of opaque words. A packet's function writes the packet whose own row is row `own`,
+// The packets of pairs, of groups of samples and an anode, of opaque words. A packet's function writes the packet whose own row is row `own`,
 // at the front of `part`.
 use crate::content::write_opaque_words;
 use crate::content::write_pairs;
@@ -32,7 +32,7 @@ pub(crate) fn write_scintillator(rows: &[u32], own: usize, part: &mut [u16]) -> 
     close(part, 0, tag::SCINTILLATOR, pairs)
 }
 
-// 0x5840: the id, an inner packet 0x5841 of a threshold and samples, an inner packet 0x5845 of the anode.
+// 0x5840: the id, an inner packet 0x5841 of a threshold and groups, an inner packet 0x5845 of the anode.
 pub(crate) fn write_crdc(rows: &[u32], own: usize, id: u32, part: &mut [u16]) -> Part
     requires { ⌜ own < length (rowsIn (now rows)) ⌝ }
     ensures { λ r. ⌜ WritesPacket crdc id (rowsIn (now (rows .entry))) own (now (part .entry)) r (now (part .exit)) ⌝ }

@@ -1,7 +1,6 @@
 -- `groups::groups_hold` meets its contract. Assumes nothing.
 use Prim.Native.Nat.{_-_, _≤_, _<_}
 use native.Mathlib.Omega.{arith}
-use mathlib.Core.Bool.{_&&_}
 use borrow.Author.Needs.{needs}
 use Rattle.s800_reader.proofs.GroupTurns.{Going, begin, ends-well, going-begin, going-next, going-end}
 use Rattle.s800_reader.proofs.groups.groups_hold.Statement.{statement}
@@ -31,7 +30,8 @@ loop-again c =
       omega (arith, v .0),
       omega arith,
       rw (c .follow .ensures)
-          (going-next (s .args .words .now) (s .args .from) (s .args .end) (s .pre .1) (l .loop .holds) (v .2) (search needs) (first .word2 .ensures .0) (second .word3 .ensures .0) (second .word3 .ensures .1)),
+          (going-next (s .args .words .now) (s .args .from) (s .args .end) (s .pre .1) (l .loop .holds) (v .2) (search needs)
+          (first .word2 .ensures .0) (second .word3 .ensures .0) (second .word3 .ensures .1)),
     )
 
 returns-2 : tie.Need-returns-2 Inv-loop μ-loop
