@@ -100,7 +100,7 @@ module _ (ws : List ℕ) (i k : ℕ) (b : List ℕ) (long : i + 4 ≤ length ws)
         = inner-read 4 anodeTag anode i (i + 4) ws (omega arith) (omega arith) long e l d z ∙ rw (first, second, none) in
         (rw r (record { answered = refl; stored = s }), omega arith)
 
--- the head of a CRDC's packet
+-- a CRDC's packet up to its threshold
 pub short-crdc : (n : ℕ) → n < 10 → allowedLength crdc n ≡ false
 short-crdc n h = lt-leb 10 n h
 
@@ -151,8 +151,8 @@ module _ {ws : List ℕ} {start n k : ℕ} (s : PacketAt ws start n k) (least : 
       crdc-tag z q = opens-refused crdc q
           (id-read ∙ rw (inner-tag (n - 7) samplesTag samples (start + 3) (start + n) ws (omega arith) (omega arith) (s .inside) c l (rw four d) z, four))
 
-      head-read : w ≡ samplesTag → getD ws (start + 5) 0 < 2 ^ 16 → restOf crdc ws start n ≡ afterFront ws start n id
-      head-read z f =
+      front-read : w ≡ samplesTag → getD ws (start + 5) 0 < 2 ^ 16 → restOf crdc ws start n ≡ afterFront ws start n id
+      front-read z f =
           let five : start + 3 + 2 ≡ start + 5 = omega arith in
           let six : start + 5 + 1 ≡ start + 6 = omega arith in
           let end : start + 3 + (n - 7) ≡ start + n - 4 = omega arith in
@@ -166,23 +166,23 @@ module _ {ws : List ℕ} {start n k : ℕ} (s : PacketAt ws start n k) (least : 
 
 -- the rest of it
 module _ {ws : List ℕ} {start n : ℕ} (h : CrdcFront ws start n) (long : start + n ≤ length ws) where
-  head-passed : restOf crdc ws start n ≡ afterFront ws start n (getD ws (start + 2) 0)
-  head-passed =
+  front-passed : restOf crdc ws start n ≡ afterFront ws start n (getD ws (start + 2) 0)
+  front-passed =
       let least = h .least in
-      head-read (record { two = omega arith; inside = long; few = le-refl start }) least refl (h .id) refl (h .samplesLength) refl (h .itsTag) (h .threshold)
+      front-read (record { two = omega arith; inside = long; few = le-refl start }) least refl (h .id) refl (h .samplesLength) refl (h .itsTag) (h .threshold)
 
   -- groups refused
   pub crdc-refused : {k : ℕ} {b b₁ after : List ℕ} {a : Answer} {m p : ℕ} {r : Opened} → Scanned (each groupRows) (samplesFrom ws start n) (k + 2) b₁ a after → a ≡ Refused m p
       → r ≡ openedOf (start + n) a → OpensAs crdc ws start n k b after r
   crdc-refused {m = m} {p = p} t q e =
       let x : samplesFrom ws start n ≡ refuse m p = refused-scan (each groupRows) (samplesFrom ws start n) (rw q at t) in
-      opens-refused crdc (e ∙ ap (openedOf (start + n)) q) (head-passed ∙ rw x)
+      opens-refused crdc (e ∙ ap (openedOf (start + n)) q) (front-passed ∙ rw x)
 
   -- groups read: the anode is left
   sampled : (xs : List Group) → samplesFrom ws start n ≡ ok xs (start + n - 4) [] → restOf crdc ws start n
       ≡ then (λ a. give (record { form = crdc; content = record { id = getD ws (start + 2) 0; samples = record { threshold = getD ws (start + 5) 0; groups = xs }; anode = a } }))
       (inner 4 anodeTag anode (start + n - 4) (slice (start + n - 4) (start + n) ws))
-  sampled xs e = head-passed ∙ rw e (then-then (inner 4 anodeTag anode (start + n - 4) (slice (start + n - 4) (start + n) ws)) _ _)
+  sampled xs e = front-passed ∙ rw e (then-then (inner 4 anodeTag anode (start + n - 4) (slice (start + n - 4) (start + n) ws)) _ _)
 
   anode-leads : {k k₁ : ℕ} {b b₁ b₂ : List ℕ} → b₁ ≡ storeRows b k (crdcFrontRows ws start) → (x : Result ℕ (List Group)) → samplesFrom ws start n ≡ x
       → Scanned (each groupRows) x (k + 2) b₁ (Accepted k₁) b₂
