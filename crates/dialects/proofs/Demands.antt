@@ -36,10 +36,10 @@ use Rattle.rcnp_layout.proofs.Reading as ReadingR
 use Rattle.rcnp_layout.proofs.Writing as WritingR
 use Rattle.rcnp_layout.proofs.Width as WidthR
 use Rattle.rcnp_layout.proofs.RowCount as RowCountR
-use Rattle.dialects.specs.Demands.{ReadingExact, ReadingInRoomExact, RowsWithinWords, WritingExact, WritingInRoomExact, WrittenBack, ReadBack, AcceptableExact, RowsOfLayout, SameRuns}
+use Rattle.dialects.specs.Demands.{ReadingExact, ReadingInRoomExact, RowsWithinWords, RowsWithinLargest, WritingExact, WritingInRoomExact, WrittenBack, ReadBack, AcceptableExact, RowsOfLayout, SameRuns}
 use Rattle.dialects.specs.declared.Dialect.{Dialect}
 use Rattle.dialects.specs.declared.Dialect.the-variants.{S, F, R}
-use Rattle.dialects.specs.Dialects.{Event, Valid, words, rows, width, reading, AcceptableIn, rowsOf}
+use Rattle.dialects.specs.Dialects.{Event, Valid, words, rows, width, reading, largestRows, AcceptableIn, rowsOf}
 
 pub reading-iff : ReadingExact
 reading-iff S o = ReadingS.reading-iff o
@@ -56,6 +56,16 @@ no-more-rows R o = RowCountR.no-more-rows
 
 pub rows-within-words : RowsWithinWords
 rows-within-words d o ws rs e = let v = reading-iff d o ws rs .0 e in omega (arith, no-more-rows d o (v .event), ap length (v .itsWords), ap length (v .itsRows))
+
+no-more-words : (d : Dialect) (e : Event d) → Valid d e → length (words d e) ≤ largestRows
+no-more-words S e v = v .size
+no-more-words F e v = omega (arith, v .size)
+no-more-words R e v = v .size
+
+pub rows-within-largest : RowsWithinLargest
+rows-within-largest d o ws rs e =
+    let v = reading-iff d o ws rs .0 e in
+    omega (arith, no-more-rows d o (v .event), no-more-words d (v .event) (v .valid), ap length (v .itsRows))
 
 pub writing-iff : WritingExact
 writing-iff S o = WritingS.writing-iff o

@@ -12,7 +12,7 @@ use Rattle.event.specs.Outcome.{done}
 use Rattle.event.specs.Rows.{flat}
 use Rattle.event.specs.Demands.{join}
 use Rattle.dialects.specs.declared.Dialect.{Dialect}
-use Rattle.dialects.specs.Dialects.{rows, reading, readingInto, writing, writingInto, SomeEventIn, AcceptableIn, rowsOf}
+use Rattle.dialects.specs.Dialects.{rows, reading, readingInto, writing, writingInto, largestRows, SomeEventIn, AcceptableIn, rowsOf}
 
 -- Demand 2. A reading accepts exactly the words of valid events, and gives the event's rows.
 abbrev pub ReadingExact : Type 0
@@ -22,9 +22,13 @@ ReadingExact = (d : Dialect) (o : StampOrder) (ws : List ℕ) (rs : List Row) �
 abbrev pub ReadingInRoomExact : Type 0
 ReadingInRoomExact = (d : Dialect) (room : ℕ) (o : StampOrder) (ws : List ℕ) (rs : List Row) → (readingInto d room o ws ≡ done rs) ↔ (SomeEventIn d o ws rs × (length rs ≤ room))
 
--- Beside the demands, for whoever lends room: an accepted event has no more rows than words, so room for as many rows as there are words is enough for every event.
+-- Beside the demands, for whoever lends room: an accepted event has no more rows than words, so room for as many rows as there are words is enough for every event;
 abbrev pub RowsWithinWords : Type 0
 RowsWithinWords = (d : Dialect) (o : StampOrder) (ws : List ℕ) (rs : List Row) → reading d o ws ≡ done rs → length rs ≤ length ws
+
+-- and room for the rows of the largest event is enough, however many words come in.
+abbrev pub RowsWithinLargest : Type 0
+RowsWithinLargest = (d : Dialect) (o : StampOrder) (ws : List ℕ) (rs : List Row) → reading d o ws ≡ done rs → length rs ≤ largestRows
 
 -- A writing accepts exactly the elements that are the rows of some valid event, and gives the event's words.
 abbrev pub WritingExact : Type 0

@@ -85,6 +85,10 @@ writing R o = writingR
 abbrev pub writingInto : Dialect → (room : ℕ) → StampOrder → List ℕ → Outcome ℕ
 writingInto d room o xs = inWordRoom room (writing d o xs)
 
+-- the most rows of an event of any dialect
+abbrev pub largestRows : ℕ
+largestRows = 4096
+
 -- Demand 2: some valid event has these words and these rows.
 abbrev pub SomeEventIn : Dialect → StampOrder → List ℕ → List Row → Type 0
 SomeEventIn d o = SomeEvent (Valid d) (words d) (rows d o)

@@ -10,6 +10,9 @@ pub enum Dialect {
     R,
 }
 
+// The most rows of an event of any dialect.
+pub const LARGEST_ROWS: usize = 4096;
+
 // The bits of a word.
 pub fn width(dialect: Dialect) -> usize
     ensures { λ r. ⌜ r ≡ width dialect ⌝ }

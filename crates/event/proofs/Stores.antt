@@ -48,11 +48,11 @@ gives-refused : {X : Type 0} {flatten : List X → List ℕ} {buffer : List ℕ}
     → Gives flatten buffer gave (Refused n p) buffer
 gives-refused z e = record { answered = rw e; written = rw (e, z) }
 
--- 12, 23, 24
-over : {A : Type 0} (n most : ℕ) (xs : List A) → most < length xs → limited n most (done xs) ≡ refused n (length xs)
+-- 12, 23, 24, 25
+pub over : {A : Type 0} (n most : ℕ) (xs : List A) → most < length xs → limited n most (done xs) ≡ refused n (length xs)
 over n most xs h = rw (lt-leb (length xs) most h)
 
-within : {A : Type 0} (n most : ℕ) (xs : List A) → length xs ≤ most → limited n most (done xs) ≡ done xs
+pub within : {A : Type 0} (n most : ℕ) (xs : List A) → length xs ≤ most → limited n most (done xs) ≡ done xs
 within n most xs h = rw (le-leb (length xs) most h)
 
 module _ {E A : Type 0} (rowsOf : A → List Row) (buffer : List ℕ) (x : Result E A) where

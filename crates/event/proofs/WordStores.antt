@@ -1,7 +1,7 @@
 -- Words stored one by one in a buffer, each where it has room: before others, in a part that was lent, and all of them where they fit. Over the width.
 -- Assumes nothing.
 use Prim.Native.Nat.{ℕ, zero, suc, _+_, _-_, _%_, _^_, _≤_, _<_, min}
-use native.Mathlib.Nat.{zero-add, mod-eq-of-lt, le-of-eq}
+use native.Mathlib.Nat.{zero-add, add-zero, add-suc, suc-add, mod-eq-of-lt, le-of-eq}
 use native.Mathlib.Numerals.{add-one}
 use native.Mathlib.Omega.{arith}
 use mathlib.Core.Path.{_≡_, refl, sym, ap, _∙_}
@@ -19,6 +19,13 @@ use Rattle.event.specs.Scanning.{storeWords}
 pub store-next : (ws out : List ℕ) (k v : ℕ) → length ws ≡ k → k < length out
     → set (ws ++ drop k out) k v ≡ (ws ++ (v ∷ [])) ++ drop (k + 1) out
 store-next ws out k v e h = rw (add-one, drop-cons out k 0, append-assoc, set-at ws (getD out k 0) (drop (suc k) out) v k e)
+
+-- elements stored behind others
+pub sets-append : (buffer a b : List ℕ) (at : ℕ) → sets (sets buffer at a) (at + length a) b ≡ sets buffer at (a ++ b)
+sets-append buffer [] b at = ap (λ (k : ℕ). sets buffer k b) (add-zero at)
+sets-append buffer (x ∷ a) b at =
+    ap (λ (k : ℕ). sets (sets buffer at (x ∷ a)) k b) (add-suc at (length a) ∙ sym (suc-add at (length a)))
+    ∙ sets-append (set buffer at x) a b (suc at)
 
 module _ (width : ℕ) where
   length-stored : (b : List ℕ) (i w : ℕ) → length (storeWord width b i w) ≡ length b

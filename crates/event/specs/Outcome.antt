@@ -29,7 +29,7 @@ abbrev pub outcome : {E A B : Type 0} → (A → Outcome B) → Result E A → O
 outcome f (ok a j r) = f a
 outcome f (refuse n k) = refused n k
 
--- 12, 23 and 24: more items than there may be, place the items needed
+-- 12, 23, 24 and 25: more items than there may be, place the items needed
 abbrev pub limited : {A : Type 0} → ℕ → ℕ → Outcome A → Outcome A
 limited n most (done xs) = cond (leb (length xs) most) (done xs) (refused n (length xs))
 limited n most (refused m k) = refused m k

@@ -2,17 +2,14 @@
 use mathlib.Core.Path.{_≡_, refl, ap, sym, _∙_}
 use mathlib.Core.List.{List, [], _∷_, _++_}
 use Prim.Native.Nat.{ℕ, zero, suc, _+_, _/_, _≤_, _<_}
-use native.Mathlib.Nat.{add-zero, add-suc, suc-add, add-assoc}
+use native.Mathlib.Nat.{add-zero, add-assoc}
 use native.Mathlib.Numerals.{add-one}
 use native.Mathlib.Omega.{arith}
 use lib.ListN.{length, getD, take, set, length-append}
 use lib.Seq.{sets, take-suc, length-take-le, length-sets}
 use borrow.Author.Tests.{le-leb, lt-leb}
+use Rattle.event.proofs.WordStores.{sets-append}
 use Rattle.hex_line.specs.Text.{hexOf, field, put, endOf, Placed}
-
-sets-append : (buffer a b : List ℕ) (at : ℕ) → sets (sets buffer at a) (at + length a) b ≡ sets buffer at (a ++ b)
-sets-append buffer [] b at = ap (λ (k : ℕ). sets buffer k b) (add-zero at)
-sets-append buffer (x ∷ a) b at = ap (λ (k : ℕ). sets (sets buffer at (x ∷ a)) k b) (add-suc at (length a) ∙ sym (suc-add at (length a))) ∙ sets-append (set buffer at x) a b (suc at)
 
 -- one character more of a text that is copied
 pub sets-copy : (buffer t : List ℕ) (at i : ℕ) → i < length t → set (sets buffer at (take i t)) (at + i) (getD t i 0) ≡ sets buffer at (take (i + 1) t)

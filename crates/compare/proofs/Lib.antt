@@ -1,0 +1,4 @@
+pub mod Loops
+pub mod Tails
+pub mod Ways
+pub mod Readings
