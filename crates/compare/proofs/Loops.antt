@@ -1,17 +1,18 @@
 -- The loops over two lists, once for every element: words of any width, and rows.
 -- Assumes nothing.
 use Prim.Native.Nat.{ℕ, zero, suc, _+_, _*_, _≤_, _<_, min}
-use native.Mathlib.Nat.{zero-add, add-zero, zero-mul, suc-mul, add-comm, mul-comm}
+use native.Mathlib.Nat.{zero-add, add-zero, mul-comm}
 use native.Mathlib.Numerals.{add-one}
 use native.Mathlib.Omega.{arith}
 use mathlib.Core.Path.{_≡_, refl, sym, ap, _∙_}
 use mathlib.Core.Bool.{Bool, true, false}
 use mathlib.Core.List.{List, [], _∷_, _++_}
-use lib.ListN.{length, getD, drop, length-drop, length-append}
+use lib.ListN.{length, getD, drop, length-drop}
 use lib.Seq.{sets, sets-eq, length-sets, drop-cons}
 use Rattle.event.specs.Outcome.{overlaid}
 use Rattle.event.proofs.WordStores.{sets-append}
 use Rattle.comparison.specs.Differences.{Difference, difference, differencesFrom, differences, entry, entries}
+use Rattle.comparison.proofs.Entries.{entries-length}
 
 module _ {A : Type 0} (same : A → A → Bool) (a b : List A) (i : ℕ) where
   -- the differences from index i on
@@ -118,12 +119,6 @@ module _ {A : Type 0} {numbers : A → List ℕ} {w : ℕ} {same : A → A → B
       → out ≡ overlaid (entries numbers (differences same a b)) out₀
   fill-done h l room =
       let all = entries numbers (differences same a b) in
-      let size : length all ≡ w * length (differences same a b) = entries-length (differences same a b) ∙ mul-comm (length (differences same a b)) w in
+      let size : length all ≡ w * length (differences same a b) = entries-length numbers w l (differences same a b) ∙ mul-comm (length (differences same a b)) w in
       let m : min (length a) (length b) ≤ i = omega (arith, f .counting .shared) in
       (rw (from-end same a b i m) at (f .rest)) ∙ sets-eq all out₀ 0 (rw (zero-add, size) room) ∙ rw zero-add
-    where
-      entries-length : (ds : List (Difference A)) → length (entries numbers ds) ≡ length ds * w
-      entries-length [] = sym (zero-mul w)
-      entries-length (d ∷ ds) =
-          let ih = entries-length ds in
-          length-append (entry numbers d) (entries numbers ds) ∙ rw (l d, ih) (add-comm w (length ds * w) ∙ sym (suc-mul (length ds) w))

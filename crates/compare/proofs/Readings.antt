@@ -36,7 +36,7 @@ long-rows d o a b = rw (long-words d a, long-words d b)
 
 -- a reading into a buffer for the rows of the largest event
 module _ (d : Dialect) (o : StampOrder) (ws buffer : List ℕ) (large : length buffer ≡ 4 * largestRows) where
-  whole : readingInto d (room (length buffer)) o ws ≡ reading d o ws
+  pub whole : readingInto d (room (length buffer)) o ws ≡ reading d o ws
   whole = go (reading d o ws) refl
     where
       go : (x : Outcome Row) → reading d o ws ≡ x → readingInto d (room (length buffer)) o ws ≡ x

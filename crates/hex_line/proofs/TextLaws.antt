@@ -5,8 +5,8 @@ use Prim.Native.Nat.{ℕ, zero, suc, _+_, _/_, _≤_, _<_}
 use native.Mathlib.Nat.{add-zero, add-assoc}
 use native.Mathlib.Numerals.{add-one}
 use native.Mathlib.Omega.{arith}
-use lib.ListN.{length, getD, take, set, length-append}
-use lib.Seq.{sets, take-suc, length-take-le, length-sets}
+use lib.ListN.{length, getD, take, drop, set, length-append, length-take}
+use lib.Seq.{sets, sets-eq, take-at, take-suc, length-take-le, length-sets}
 use borrow.Author.Tests.{le-leb, lt-leb}
 use Rattle.event.proofs.WordStores.{sets-append}
 use Rattle.hex_line.specs.Text.{hexOf, field, put, endOf, Placed}
@@ -55,3 +55,9 @@ pub placed-put : {b₀ b₁ b₂ s : List ℕ} {at k m : ℕ} → Placed b₀ at
     → at + length (s ++ t) ≤ length b₀ → Placed b₀ at (s ++ t) m b₂
 placed-put {b₀} {b₁} {b₂} {s} {at} {k} {m} p t e h =
     placed-then p (placed e (rw (p .ends, p .holds, length-sets) (omega (arith, length-append s t))))
+
+-- the front of a buffer up to the end of what was put: what stood before it, and the text
+pub pending : {text t text′ : List ℕ} {at k : ℕ} → at + length t ≤ length text → Placed text at t k text′ → take k text′ ≡ take at text ++ t
+pending {text} {t} {text′} {at} {k} h p =
+    ap (take k) (p .holds ∙ sets-eq t text at h)
+    ∙ take-at (take at text ++ t) (drop (at + length t) text) k (simp (length-append, length-take) (omega (arith, p .ends)))

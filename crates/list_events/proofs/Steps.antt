@@ -15,6 +15,7 @@ use Rattle.event.specs.declared.Row.{Row}
 use Rattle.event.specs.Outcome.{defaultOrder, accepted}
 use Rattle.listing.specs.declared.Next.the-variants.{Line, Long, End, Cut}
 use Rattle.hex_line.specs.Text.{Placed}
+use Rattle.hex_line.proofs.TextLaws.{pending}
 use Rattle.listing.specs.Input.{firstLine}
 use Rattle.listing.specs.Lengths.{lastLength, mostText}
 use Rattle.listing.specs.Listing.{linesOf, acceptedIn, refusedIn, listFrom}
@@ -25,7 +26,6 @@ use Rattle.listing.proofs.Room.{most-text}
 use Rattle.listing.proofs.TextLaws.{last-length}
 use Rattle.list_events.specs.declared.Run.{Run}
 use Rattle.list_events.specs.Run.{Inside, LineInside, restOf, behind, answerTo, rowsTo, LineListed, Kept, RestPut}
-use Rattle.list_events.proofs.Texts.{pending}
 
 lt-of-le-ne : {a b m : ℕ} → b ≤ a → (a ≡ b → ⊥) → m ≡ a → b < m
 lt-of-le-ne {a} {b} {m} h n e = go (ltb b m) refl

@@ -5,7 +5,7 @@ use native.Mathlib.Numerals.{add-one}
 use native.Mathlib.Omega.{arith}
 use mathlib.Core.Path.{_≡_, sym, ap, _∙_}
 use mathlib.Core.List.{List, [], _∷_, _++_, append-assoc}
-use lib.ListN.{length, getD, set, take, drop, length-drop, length-take, length-append}
+use lib.ListN.{length, getD, set, take, drop, length-drop}
 use lib.Seq.{take-at, take-take, take-suc, drop-cons, set-at, getD-drop, getD-append-add, sets-eq, drop-drop, length-take-le}
 use borrow.Author.Tests.{le-leb}
 use borrow.Rule.Slice.PartMut.{putMid, take-put}
@@ -13,12 +13,6 @@ use Rattle.event.specs.Outcome.{overlaid}
 use Rattle.event.proofs.WordStores.{part-lent, part-back}
 use Rattle.hex_line.specs.Text.{Placed}
 use Rattle.listing.specs.Text.{fitted}
-
--- what is not written yet, with the text behind it
-pub pending : {text t text′ : List ℕ} {at k : ℕ} → at + length t ≤ length text → Placed text at t k text′ → take k text′ ≡ take at text ++ t
-pending {text} {t} {text′} {at} {k} h p =
-    ap (take k) (p .holds ∙ sets-eq t text at h)
-    ∙ take-at (take at text ++ t) (drop (at + length t) text) k (simp (length-append, length-take) (omega (arith, p .ends)))
 
 -- the part that is lent, and the text put at its start
 module _ (text t : List ℕ) (at : ℕ) (fits : at + length t ≤ length text) where

@@ -90,7 +90,7 @@ unfolding listFrom
 list-end o a r = refl
 
 -- a line that is too long is refused by 30, whatever its characters
-words-long : (d : Dialect) (line : List ℕ) → longestLine < length line → lineWords d line ≡ refused 30 0
+pub words-long : (d : Dialect) (line : List ℕ) → longestLine < length line → lineWords d line ≡ refused 30 0
 words-long d line h = rw (formed-too-long (letter d) (digits d) line h)
 
 pub long-refused : (o : StampOrder) (line : List ℕ) → longestLine < length line → lineRows o line ≡ refused 30 0

@@ -23,10 +23,10 @@ use Rattle.listing.proofs.TextLaws.{answer-most, event-length}
 use Rattle.listing.specs.Listing.{lineDialect, andThen, lineRows, lineRowsInto}
 use Rattle.listing.specs.Lengths.{mostRows, mostText}
 
-under : (d : Dialect) → mostWords d ≤ mostRows
+pub under : (d : Dialect) → mostWords d ≤ mostRows
 under = by-width (λ (w : ℕ). (longestLine - 1) / (w / 4 + 1) ≤ mostRows) (omega arith) (omega arith)
 
-few-words : (d : Dialect) (line ws : List ℕ) → lineWords d line ≡ done ws → length ws ≤ mostWords d
+pub few-words : (d : Dialect) (line ws : List ℕ) → lineWords d line ≡ done ws → length ws ≤ mostWords d
 few-words d line ws e = go (wellFormed (letter d) (digits d) line) refl
   where
     go : (b : Bool) → wellFormed (letter d) (digits d) line ≡ b → length ws ≤ mostWords d

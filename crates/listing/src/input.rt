@@ -34,7 +34,7 @@ pub fn next_line(rest: &[u8], ended: bool, lines: u64) -> Next
 }
 
 // How many characters stand before the first line feed, or all where there is none.
-fn first_line(rest: &[u8]) -> usize
+pub fn first_line(rest: &[u8]) -> usize
     ensures { λ r. ⌜ r ≡ firstLine (now (rest .entry)) ⌝ }
 {
     let mut i = 0;

@@ -3,7 +3,9 @@ mod input;
 mod rows;
 mod text;
 
+pub use input::first_line;
 pub use input::next_line;
+pub use rows::dialect_of_line;
 pub use rows::line_rows;
 pub use text::put_event;
 pub use text::put_last;

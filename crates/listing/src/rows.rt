@@ -35,7 +35,7 @@ pub fn line_rows(
 }
 
 // The dialect of a line by its letter.
-fn dialect_of_line(line: &[u8]) -> Dialect
+pub fn dialect_of_line(line: &[u8]) -> Dialect
     ensures { λ r. ⌜ r ≡ lineDialect (now (line .entry)) ⌝ }
 {
     if line.len() == 0 {

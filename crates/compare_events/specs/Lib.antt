@@ -1,0 +1,4 @@
+pub mod Lengths
+pub mod Print
+pub mod Run
+pub mod Text
