@@ -7,7 +7,6 @@ use crate::lines::{next_line, push_hex, words_of_line, LONGEST_LINE};
 
 /// The first two lines of an input, and what they say.
 pub struct Given<'a> {
-    pub text: &'a [u8],
     pub lines: [Option<&'a [u8]>; 2],
     /// The first line's by its letter, or the first of the table.
     pub dialect: &'static Dialect,
@@ -24,7 +23,7 @@ impl Given<'_> {
         let letter = first.and_then(|line| line.first());
         let of_letter = |dialect: &&Dialect| letter == Some(&(dialect.letter as u8));
         let dialect = DIALECTS.into_iter().find(of_letter).unwrap_or(DIALECTS[0]);
-        Given { text, lines, dialect, words: lines.map(|line| words_in(dialect, line)) }
+        Given { lines, dialect, words: lines.map(|line| words_in(dialect, line)) }
     }
 
     /// Both events, where both lines are good.

@@ -32,7 +32,7 @@ impl Room {
         self.lent >= self.needed + self.entry
     }
 
-    fn has_broken_entry(&self) -> bool {
+    fn has_incomplete_entry(&self) -> bool {
         self.lent % self.entry != 0
     }
 }
@@ -76,8 +76,8 @@ pub const CALLS: [Kind<CallFacts>; 22] = [
     ("words: an element more", |c| c.words().is_over(1)),
     ("words: plenty", |c| c.words().is_plenty()),
     ("words: no room, none needed", |c| c.call.words == 0 && c.words().fits()),
-    ("words: a broken entry, 25", |c| c.words().has_broken_entry() && !c.words().fits()),
-    ("words: a broken entry, accepted", |c| c.words().has_broken_entry() && c.answer.is_ok()),
+    ("words: incomplete entry, 25", |c| c.words().has_incomplete_entry() && !c.words().fits()),
+    ("words: incomplete entry, accepted", |c| c.words().has_incomplete_entry() && c.answer.is_ok()),
     ("rows: exact room", |c| c.rows_asked(|rows| rows.is_over(0))),
     ("rows: an element less", |c| c.rows_asked(|rows| rows.is_over(-1))),
     ("rows: an entry less", |c| c.rows_asked(|rows| rows.is_over(-9))),
@@ -89,8 +89,10 @@ pub const CALLS: [Kind<CallFacts>; 22] = [
     ("rows: no room, one refused", |c| {
         c.lends_none_for_rows() && c.compared.is_acceptable() != [true, true]
     }),
-    ("rows: a broken entry, 25", |c| c.rows_asked(|rows| rows.has_broken_entry() && !rows.fits())),
-    ("rows: a broken entry, accepted", |c| c.rows().has_broken_entry() && c.answer.is_ok()),
+    ("rows: incomplete entry, 25", |c| {
+        c.rows_asked(|rows| rows.has_incomplete_entry() && !rows.fits())
+    }),
+    ("rows: incomplete entry, accepted", |c| c.rows().has_incomplete_entry() && c.answer.is_ok()),
     ("longer than the largest event", |c| {
         let largest = c.call.pair.dialect.largest_event;
         c.compared.lengths.iter().any(|&length| length > largest)
