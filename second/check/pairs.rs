@@ -111,29 +111,36 @@ fn check_tail() -> Result<(), String> {
     ensure(is_part(&second, 0..5, tail(&[], &second)), "a tail of all words")
 }
 
-/// A call's text, and the text of its answer.
+/// A call's text, and the texts of its answers: accepted, refused, and with too little room for the
+/// three numbers. Any order but 0 is rising.
 fn check_text() -> Result<(), String> {
     let pair = Pair::new(DIALECTS[2], [vec![0xf001, 0x0fff], vec![]]);
     let mut call = Call { pair, order: 1, words: 1, rows: 0, answer: 4 };
     let text = "00000010 00000002 00000001 00000001 00000000 00000004 f0010fff -\n";
     ensure(call.text() == text.as_bytes(), "the text of a call")?;
-    let answer_of = |call: &Call| {
-        let mut text = Vec::new();
-        let entries = call.push_answer(&mut text);
-        (entries, String::from_utf8_lossy(&text).into_owned())
-    };
-    let zero = "0000000000000000";
+    let (zero, one) = ("0000000000000000", "0000000000000001");
     let untouched = "a5a5a5a5a5a5a5a5";
     let text = format!("answer {zero} {zero} {zero} {untouched}\nword {untouched}\n");
-    ensure(answer_of(&call) == (Ok([0, 0]), text), "the text of an answer")?;
+    ensure(answer_text(&call) == text, "the text of an answer")?;
     call.pair.events[1] = vec![0xf002];
     call.rows = 10;
-    call.answer = 2;
     let row = " a5a5a5a5".repeat(9);
-    let text =
-        format!("answer {untouched} {untouched}\nword {untouched}\nrow{row}\nrow a5a5a5a5\n");
-    let refused = Err(Refusal { number: 25, place: 1 });
-    ensure(answer_of(&call) == (refused, text), "the text of a refused answer")
+    let lists = format!("word {untouched}\nrow{row}\nrow a5a5a5a5\n");
+    let text = format!("answer 0000000000000019 {one} {zero} {untouched}\n{lists}");
+    ensure(answer_text(&call) == text, "the text of a refused answer")?;
+    call.answer = 2;
+    let text = format!("answer {untouched} {untouched}\n{lists}");
+    ensure(answer_text(&call) == text, "the text of two numbers")?;
+    let orders = [0, 1, 2, u32::MAX].map(|order| Call { order, ..call.clone() }.order());
+    let rising = Order::Rising;
+    ensure(orders == [Order::Crossed, rising, rising, rising], "the orders by number")
+}
+
+fn answer_text(call: &Call) -> String {
+    let mut text = Vec::new();
+    // The answer itself is in the text.
+    let _ = call.push_answer(&mut text);
+    String::from_utf8_lossy(&text).into_owned()
 }
 
 /// An event does not differ from itself.
