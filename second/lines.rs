@@ -65,6 +65,14 @@ pub fn push_hex(text: &mut Vec<u8>, number: u32, digits: usize) {
     }
 }
 
+/// The line at the front of a text, none where the text is empty, and what follows its line feed.
+pub fn next_line(text: &[u8]) -> (Option<&[u8]>, &[u8]) {
+    match text.iter().position(|&byte| byte == b'\n') {
+        Some(end) => (Some(&text[..end]), &text[end + 1..]),
+        None => ((!text.is_empty()).then_some(text), b""),
+    }
+}
+
 /// Lists a whole input. Each line's words, if it has the form of a line, and its answer are given
 /// to `note` as well.
 pub fn list(
@@ -74,22 +82,23 @@ pub fn list(
     note: &mut dyn FnMut(Option<&Words>, Answer),
 ) {
     let (mut accepted, mut refused) = (0, 0);
-    let mut rest = input;
+    let mut left = input;
     let mut is_cut = false;
-    while !rest.is_empty() && !is_cut {
+    while let (Some(line), rest) = next_line(left) {
         if accepted + refused == MOST_LINES {
             is_cut = true;
             break;
         }
-        let end = rest.iter().position(|&byte| byte == b'\n');
-        let line = &rest[..end.unwrap_or(rest.len())];
-        rest = end.map_or(&[], |end| &rest[end + 1..]);
+        left = rest;
         let answer = list_line(line, accepted + refused + 1, order, output, note);
         match answer {
             Ok(_) => accepted += 1,
             Err(_) => refused += 1,
         }
-        is_cut = line.len() > LONGEST_LINE;
+        if line.len() > LONGEST_LINE {
+            is_cut = true;
+            break;
+        }
     }
     output.extend_from_slice(if is_cut { b"cut events " } else { b"end events " });
     push_hex(output, accepted as u32, 8);

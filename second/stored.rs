@@ -1,8 +1,9 @@
 //! `stored lines` and `stored vectors`: the stored inputs, made with a fixed seed. `stored pads`: what
-//! list_pads prints, which has no input.
+//! list_pads prints, which has no input. `stored pair`: the input of compare_events.
 
 use crate::base::Order;
-use crate::dialects::{s800, Dialect, Words, DIALECTS};
+use crate::dialects::s800::{self, make};
+use crate::dialects::{widened, Dialect, Words, DIALECTS};
 use crate::generate::{cases, damage_line, line_edges, probes};
 use crate::lines::{line_of, push_numbers, LONGEST_LINE};
 use crate::rng::Rng;
@@ -107,6 +108,20 @@ pub fn pads() -> Vec<u8> {
         }
     }
     text
+}
+
+/// Two lines of S: an event with a packet of each form, and the same with the last word of every
+/// second packet changed and with a packet more.
+pub fn pair() -> Vec<u8> {
+    let packets = s800::every_form();
+    let mut others = packets.clone();
+    for packet in others.iter_mut().step_by(2) {
+        *packet.last_mut().expect("a packet has words") ^= 1;
+    }
+    others.push(make::packet(0x5830, &[0x1234, 0xffff]));
+    let events = [packets, others].map(|packets| widened(&make::event_of(&packets)));
+    let lines = events.map(|words| [&line_of(&s800::DIALECT, &words)[..], b"\n"].concat());
+    lines.concat()
 }
 
 fn large_calls() -> Vec<Vector> {

@@ -1,8 +1,11 @@
-//! `check`: the spoken cases, the line rules, the host call, the stored inputs, the generators.
+//! `check`: the spoken cases, the line rules, the host call, the comparison of two events, the stored
+//! inputs, the generators.
 
 mod host;
 mod lines;
 mod made;
+mod pair_print;
+mod pairs;
 mod stored;
 
 use crate::base::{Order, Refusal, Row};
@@ -16,6 +19,8 @@ pub fn run() -> Result<(), String> {
     }
     check_answered()?;
     host::run()?;
+    pairs::run()?;
+    pair_print::run()?;
     stored::run()?;
     made::run()?;
     println!("all checks hold");

@@ -1,7 +1,11 @@
-//! The stored inputs stay in their limits and meet every refusal that they can; the pads count up.
+//! The stored inputs stay in their limits and meet every refusal that they can; the pads count up; the
+//! stored pair shows each kind of difference.
 
 use super::ensure;
 use super::lines::LISTED;
+use crate::base::Order;
+use crate::pairs::print::Given;
+use crate::pairs::tail;
 use crate::stored;
 use crate::tally::{Source, Tally};
 
@@ -13,6 +17,7 @@ pub fn run() -> Result<(), String> {
     ensure_met("lines", &Tally::of_lines(&lines), &[Source::Line])?;
     ensure_met("vectors", &Tally::of_vectors(&vectors)?, &[Source::Reading, Source::Writing])?;
     check_pads()?;
+    check_pair()?;
     check_thinned()
 }
 
@@ -26,6 +31,19 @@ fn check_pads() -> Result<(), String> {
     let line = |pad: usize| format!("{:08x} {:08x} {pad:08x}\n", pad % 64, pad / 64);
     let lines: String = (0..256).map(line).collect();
     ensure(stored::pads() == lines.as_bytes(), "the pads count up by channel and connector")
+}
+
+/// Two events of at most 200 words with several differing words and rows, a tail, and equal ones
+/// between them.
+fn check_pair() -> Result<(), String> {
+    let text = stored::pair();
+    let pair = Given::of(&text).pair().ok_or("the stored pair is two lines")?;
+    let [first, second] = &pair.events;
+    let [words, rows] = [pair.word_list().len(), pair.row_list(Order::DEFAULT).len()];
+    ensure(first.len().max(second.len()) <= 200, "the stored pair is of modest size")?;
+    let is_several = |count: usize| (5..first.len() / 2).contains(&count);
+    ensure(is_several(words) && is_several(rows), "words and rows of the stored pair differ")?;
+    ensure(!tail(first, second).is_empty(), "the stored pair has a tail")
 }
 
 /// All that fits is kept, else every second, every third, ..

@@ -1,16 +1,19 @@
 //! Runs a program under test: input and output pipes are served by threads, the wait is bounded.
 
 use std::io::{Read, Write};
-use std::process::{Child, Command, Stdio};
+use std::process::{Child, ChildStdin, Command, Stdio};
 use std::sync::mpsc::{channel, Receiver};
-use std::thread;
+use std::thread::{self, JoinHandle};
 use std::time::{Duration, Instant};
 
 const LONGEST_WAIT: Duration = Duration::from_secs(120);
 const LONGEST_EXIT: Duration = Duration::from_secs(10);
+const BETWEEN_PIECES: Duration = Duration::from_millis(1);
 
 pub struct Running {
     child: Child,
+    /// An input that stays open is held here.
+    _input: JoinHandle<Option<ChildStdin>>,
     output: Receiver<Vec<u8>>,
 }
 
@@ -21,6 +24,16 @@ pub struct Outcome {
 }
 
 pub fn start(path: &str, input: Vec<u8>) -> Result<Running, String> {
+    start_in_pieces(path, vec![input], false)
+}
+
+/// The input comes in pieces, each a little after the one before; behind the last it ends, or it
+/// stays open until the program has ended.
+pub fn start_in_pieces(
+    path: &str,
+    pieces: Vec<Vec<u8>>,
+    stays_open: bool,
+) -> Result<Running, String> {
     let mut child = Command::new(path)
         .stdin(Stdio::piped())
         .stdout(Stdio::piped())
@@ -28,8 +41,18 @@ pub fn start(path: &str, input: Vec<u8>) -> Result<Running, String> {
         .map_err(|error| format!("{path} cannot be started: {error}"))?;
     let mut to_child = child.stdin.take().expect("standard input is a pipe");
     let mut from_child = child.stdout.take().expect("standard output is a pipe");
-    // A program may stop before its input ends (a cut listing): a failed write is no fault.
-    thread::spawn(move || to_child.write_all(&input));
+    let input = thread::spawn(move || {
+        for (index, piece) in pieces.iter().enumerate() {
+            if index > 0 {
+                thread::sleep(BETWEEN_PIECES);
+            }
+            // A program may stop before its input ends (a cut listing): a failed write is no fault.
+            if to_child.write_all(piece).is_err() {
+                break;
+            }
+        }
+        stays_open.then_some(to_child)
+    });
     let (sender, output) = channel();
     thread::spawn(move || {
         let mut bytes = vec![0; 1 << 16];
@@ -39,7 +62,7 @@ pub fn start(path: &str, input: Vec<u8>) -> Result<Running, String> {
             }
         }
     });
-    Ok(Running { child, output })
+    Ok(Running { child, _input: input, output })
 }
 
 impl Running {

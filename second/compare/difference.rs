@@ -1,8 +1,10 @@
 //! Finding and showing the first difference between two outputs.
 
+use super::child::Outcome;
 use crate::lines::LONGEST_LINE;
 
-/// How many lines of each output the report shows at most from the event's first line on.
+/// How many lines of each output the report shows at most, from the event's first line on or from
+/// half as many lines before the one that differs.
 const MOST_SHOWN: usize = 200;
 const KEPT_INPUT: &str = "target/second/difference.input";
 
@@ -11,16 +13,16 @@ fn split(output: &[u8]) -> Vec<&[u8]> {
 }
 
 /// The index of the first line in which two outputs differ.
-pub fn first_line(expected: &[u8], came: &[u8]) -> Option<usize> {
+fn first_line(expected: &[u8], came: &[u8]) -> Option<usize> {
     let (expected, came) = (split(expected), split(came));
     let shorter = expected.len().min(came.len());
     let differing = (0..shorter).find(|&index| expected[index] != came[index]);
     differing.or(if expected.len() == came.len() { None } else { Some(shorter) })
 }
 
-/// Does an output line begin the answer to a line or a vector?
+/// Does an output line begin the answer to a line, a vector or a call?
 fn begins_answer(line: &[u8]) -> bool {
-    [&b"event "[..], b"accepted ", b"refused "].iter().any(|head| line.starts_with(head))
+    [&b"event "[..], b"accepted ", b"refused ", b"answer"].iter().any(|head| line.starts_with(head))
 }
 
 /// How many answers begin before an output line or at it.
@@ -37,16 +39,17 @@ pub fn line_of_output(input: &[u8], expected: &[u8], line: usize) -> (usize, Str
     (index, text)
 }
 
-/// The vector, counted from 0, that an output line belongs to.
-pub fn vector_of_output(expected: &[u8], line: usize) -> usize {
+/// The vector or the call, counted from 0, that an output line belongs to.
+pub fn call_of_output(expected: &[u8], line: usize) -> usize {
     answers_to(expected, line).saturating_sub(1)
 }
 
 /// Both outputs from the beginning of the answer that differs.
-pub fn around(expected: &[u8], came: &[u8], line: usize) -> String {
+fn around(expected: &[u8], came: &[u8], line: usize) -> String {
     let (expected, came) = (split(expected), split(came));
     let known = &expected[..expected.len().min(line + 1)];
     let start = known.iter().rposition(|line| begins_answer(line)).unwrap_or(0);
+    let start = start.max(line.saturating_sub(MOST_SHOWN / 2));
     let show = |lines: &[&[u8]]| -> String {
         let mut text = String::new();
         for (index, shown) in lines.iter().enumerate().skip(start).take(MOST_SHOWN) {
@@ -63,9 +66,29 @@ pub fn around(expected: &[u8], came: &[u8], line: usize) -> String {
 }
 
 /// Keeps the whole input of the run beside the program, for running it again.
-pub fn keep_input(input: &[u8]) -> String {
+fn keep_input(input: &[u8]) -> String {
     match std::fs::write(KEPT_INPUT, input) {
         Ok(()) => format!("the whole input is in {KEPT_INPUT}"),
         Err(error) => format!("the whole input could not be kept in {KEPT_INPUT}: {error}"),
     }
+}
+
+/// Compares an outcome with what was expected; `describe` tells of the input of an output line.
+pub fn judge(
+    program: &str,
+    input: &[u8],
+    expected: &[u8],
+    outcome: &Outcome,
+    describe: impl Fn(usize) -> String,
+) -> Result<(), String> {
+    if outcome.output == expected && outcome.trouble.is_none() {
+        return Ok(());
+    }
+    let kept = keep_input(input);
+    let trouble = outcome.trouble.as_deref().unwrap_or("its output differs");
+    let Some(line) = first_line(expected, &outcome.output) else {
+        return Err(format!("{program}: {trouble}; its output is as expected\n{kept}"));
+    };
+    let around = around(expected, &outcome.output, line);
+    Err(format!("{program}: {trouble}\n{}\n{around}\n{kept}", describe(line)))
 }

@@ -2,6 +2,7 @@
 
 mod child;
 mod difference;
+pub mod pairs;
 
 use crate::base::Order;
 use crate::generate::cases::{self, Case};
@@ -11,7 +12,7 @@ use crate::rng::Rng;
 use crate::tally::{Tally, SOURCES};
 use crate::vectors::Vector;
 use crate::{lines, stored};
-use child::Outcome;
+use difference::judge;
 
 /// A batch ends when it has so many events or so many bytes of vectors. One event adds at most
 /// two vectors of some 190,000 bytes, so the input stays below 1,048,576 bytes.
@@ -172,7 +173,7 @@ fn compare_batch(settings: &Settings, batch: &Batch, tally: &mut Tally) -> Resul
     })
     .map_err(label)?;
     judge(&settings.run_vectors, &batch.vector_text, &expected_answers, &calls, |line| {
-        let index = difference::vector_of_output(&expected_answers, line);
+        let index = difference::call_of_output(&expected_answers, line);
         let (event, input) = vector_input(batch, index);
         format!("event {} of the run, input vector:\n{input}", first + event)
     })
@@ -195,26 +196,6 @@ fn vector_input(batch: &Batch, index: usize) -> (usize, String) {
         vectors_before += case.vectors.len();
     }
     (batch.cases.len(), "(none: output after the last vector's)".to_string())
-}
-
-/// Compares an outcome with what was expected; `describe` tells of the input of an output line.
-fn judge(
-    program: &str,
-    input: &[u8],
-    expected: &[u8],
-    outcome: &Outcome,
-    describe: impl Fn(usize) -> String,
-) -> Result<(), String> {
-    if outcome.output == expected && outcome.trouble.is_none() {
-        return Ok(());
-    }
-    let kept = difference::keep_input(input);
-    let trouble = outcome.trouble.as_deref().unwrap_or("its output differs");
-    let Some(line) = difference::first_line(expected, &outcome.output) else {
-        return Err(format!("{program}: {trouble}; its output is as expected\n{kept}"));
-    };
-    let around = difference::around(expected, &outcome.output, line);
-    Err(format!("{program}: {trouble}\n{}\n{around}\n{kept}", describe(line)))
 }
 
 /// Every edge of every dialect. They are not counted: a long run must meet each refusal by

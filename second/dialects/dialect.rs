@@ -184,6 +184,19 @@ impl Dialect {
         (Words { dialect: self, words: good }, Words { dialect: self, words: given })
     }
 
+    /// A random acceptable event, and the same with a part of another event, then often mended.
+    pub fn with_a_part_more(&self, rng: &mut Rng) -> [Vec<u32>; 2] {
+        let (fewer, mut more) = match self.native {
+            Native::Bits16(functions) => {
+                let (fewer, more) = functions.with_a_part_more(rng);
+                (widened(&fewer), widened(&more))
+            }
+            Native::Bits32(functions) => functions.with_a_part_more(rng),
+        };
+        self.mend_words(rng, &mut more);
+        [fewer, more]
+    }
+
     /// Mends words that were damaged, half of the times.
     pub fn mend_words(&self, rng: &mut Rng, words: &mut [u32]) {
         match &self.mend {

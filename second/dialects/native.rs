@@ -62,6 +62,20 @@ impl<W: Copy> Functions<W> {
         };
         (good, given)
     }
+
+    /// An acceptable event, and the same with a part of another event, mostly near its end.
+    pub fn with_a_part_more(&self, rng: &mut Rng) -> (Vec<W>, Vec<W>) {
+        let (parts, mut others) = ((self.mixed)(rng), (self.mixed)(rng));
+        let part = others.swap_remove(rng.below(others.len()));
+        let place = match rng.below(6) {
+            0 => rng.below(parts.len()),
+            1 | 2 => parts.len() - 1,
+            _ => parts.len(),
+        };
+        let mut more = parts.clone();
+        more.insert(place, part);
+        ((self.event_of)(&parts), (self.event_of)(&more))
+    }
 }
 
 /// Systematic events, acceptable ones at every edge and refused ones beyond it.

@@ -28,6 +28,11 @@ pub fn second() -> Packet {
     packet(tags::EVENT_NUMBER, &[7, 0, 0])
 }
 
+/// The packets of an event with one of each form.
+pub fn every_form() -> Vec<Packet> {
+    [vec![first(), second()], small_packets()].concat()
+}
+
 /// The smallest event with more packets.
 pub fn with(packets: &[Packet]) -> Vec<u16> {
     event_of(&[&[first(), second()], packets].concat())
@@ -192,7 +197,7 @@ fn whole_events() -> Vec<Vec<u16>> {
         event_of(&ones),
         event_of(&chunks),
         with(&[time.clone(), time]),
-        with(&small_packets()),
+        event_of(&every_form()),
         with(&[first()]),
         with(&[second()]),
         event_of(&[second(), first()]),

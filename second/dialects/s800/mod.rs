@@ -16,6 +16,7 @@ mod write;
 
 use super::{Dialect, Functions, Native, Rows, Wanted};
 use crate::generate::damage_rows::FIELD_LIMITS;
+pub(crate) use edges::every_form;
 pub(crate) use groups::pad;
 
 pub static DIALECT: Dialect = Dialect {
