@@ -22,7 +22,7 @@ use Rattle.dialects.specs.declared.Dialect.{Dialect}
 use Rattle.dialects.specs.Dialects.{width, ofWidth, reading, readingInto, largestRows}
 use Rattle.dialects.proofs.Demands.{rows-within-largest}
 use Rattle.dialects.proofs.Widths.{by-width}
-use Rattle.comparison.specs.Differences.{Difference, differences}
+use Rattle.comparison.specs.Differences.{differences}
 use Rattle.comparison.specs.Comparing.{differingRows, rowsApart}
 use Rattle.comparison.proofs.Exact.{second-refused}
 use Rattle.compare.proofs.Ways.{ListGiven, fits}

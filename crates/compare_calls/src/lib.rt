@@ -1,5 +1,5 @@
-// The comparison in C's calling convention, with the numbers of the dialect and the stamp order: what second/ compares with the second reader, and bench/ times.
-// The answer is three numbers in a lent buffer, as `numbersOf` has them; they are put where there is room for all three.
+// The comparison in C's calling convention, with the numbers of the dialect and the stamp order: what second/ compares with the second reader. The answer is three
+// numbers in a lent buffer, as `numbersOf` has them; they are put where there is room for all three.
 use compare::compare16;
 use compare::compare32;
 use comparison::Comparison;

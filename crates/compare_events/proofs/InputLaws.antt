@@ -7,13 +7,12 @@ use mathlib.Core.Path.{_≡_, refl, sym, ap, _∙_}
 use mathlib.Core.Logic.{_⊎_, inl, inr, ⊎-elim}
 use mathlib.Core.Bool.{Bool, true, false, cond}
 use mathlib.Core.List.{List, [], _∷_, _++_, append-nil}
-use lib.Dec.{eqb, ltb, leb}
+use lib.Dec.{eqb, ltb}
 use lib.ListN.{length, getD, take, drop, length-append, length-take, length-drop, drop-of-length-le, List·getD-append}
 use lib.Seq.{take-all, take-add, take-suc, length-take-le}
 use borrow.Author.Tests.{lt-ltb, le-ltb, ltb-true, ltb-false, eqb-true, eq-eqb, ne-eqb}
 use borrow.Rule.Slice.PartMut.{putMid, take-put}
 use Rattle.event.specs.declared.StampOrder.{StampOrder}
-use Rattle.event.specs.Outcome.{refused}
 use Rattle.event.proofs.Impossible.{impossible}
 use Rattle.event.proofs.WordStores.{part-lent, part-back}
 use Rattle.dialects.specs.declared.Dialect.{Dialect}

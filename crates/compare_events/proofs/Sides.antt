@@ -2,11 +2,11 @@
 -- Assumes nothing.
 use Prim.Native.Nat.{ℕ, _+_, _*_, _/_, _≤_}
 use native.Mathlib.Omega.{arith}
-use mathlib.Core.Path.{_≡_, refl, sym, ap, _∙_}
+use mathlib.Core.Path.{_≡_, refl, ap, _∙_}
 use mathlib.Core.Bool.{cond}
-use mathlib.Core.List.{List, _++_}
+use mathlib.Core.List.{List}
 use lib.Dec.{ltb}
-use lib.ListN.{length, take, drop, length-take}
+use lib.ListN.{length, take, drop}
 use lib.Seq.{take-at, length-take-le}
 use Rattle.event.specs.declared.Row.{Row}
 use Rattle.event.specs.declared.StampOrder.{StampOrder}
@@ -27,7 +27,6 @@ use Rattle.comparison.specs.Differences.{Difference, tailOf}
 use Rattle.comparison.proofs.Entries.{entries-length}
 use Rattle.compare_events.specs.Lengths.{wordLength, tailLength, rowsLength, lastLength, comparedLength}
 use Rattle.compare_events.specs.Print.{comparedText}
-use Rattle.compare_events.specs.Run.{WordsPut, RowsPut}
 use Rattle.compare_events.specs.Text.{wordText, tailLines, tailText, rowsText, endText}
 use Rattle.compare_events.proofs.Sizes.{few-rows-apart, tail-text-most, own-rows, words-and-tail, both-listed}
 use Rattle.compare_events.proofs.TextLaws.{word-length, rows-length, each-length}

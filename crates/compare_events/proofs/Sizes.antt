@@ -1,9 +1,9 @@
 -- How much there is of each list, and that the program's room fits all of it.
 -- Assumes nothing.
-use Prim.Native.Nat.{ℕ, suc, _+_, _-_, _*_, _/_, _≤_, _<_}
+use Prim.Native.Nat.{ℕ, suc, _+_, _-_, _*_, _/_, _≤_}
 use native.Mathlib.Nat.{le-trans, le-of-eq}
 use native.Mathlib.Omega.{arith}
-use mathlib.Core.Path.{_≡_, refl, sym, ap, _∙_}
+use mathlib.Core.Path.{_≡_, refl}
 use mathlib.Core.Bool.{Bool, true, false, cond}
 use mathlib.Core.List.{List, [], _∷_, _++_}
 use lib.Dec.{ltb}
@@ -26,7 +26,7 @@ use Rattle.listing.proofs.Room.{few-words, under}
 use Rattle.comparison.specs.declared.Comparison.the-variants.{Listed}
 use Rattle.comparison.specs.Comparing.{differingWords, differingRows, rowsApart, compared}
 use Rattle.comparison.specs.Differences.{Difference, difference, differencesFrom, tailOf}
-use Rattle.compare_events.specs.Lengths.{answerLength, wordLength, tailLength, rowsLength, lastLength, comparedLength, mostText}
+use Rattle.compare_events.specs.Lengths.{wordLength, tailLength, rowsLength, comparedLength, mostText}
 use Rattle.compare_events.specs.Print.{comparedText, bodyText, linesText, printOf}
 use Rattle.compare_events.specs.Text.{answersText, wordText, tailLines, tailText, rowsText, endText}
 use Rattle.compare_events.proofs.TextLaws.{answers-most, word-length, tails-most, rows-length, end-length, each-length}

@@ -3,7 +3,7 @@ use libc::STDIN_FILENO;
 ghost use Prim.Native.Nat.{_+_, _-_, _<_, _≤_};
 ghost use mathlib.Core.Path.{_≡_};
 ghost use mathlib.Core.Bool.{false};
-ghost use lib.ListN.{length, take};
+ghost use lib.ListN.{length};
 ghost use Rattle.compare_events.specs.Run.{feedsIn, Inside, goesOn};
 
 // How many characters were read, and how many line feeds are among them; how many the last read gave, none where the input has ended; whether a read failed.
