@@ -39,7 +39,8 @@ WordsExact = (a b : List ℕ) → Rising (differingWords a b) × ((d : Differenc
 abbrev pub SameWords : Type 0
 SameWords = (a b : List ℕ) → length a ≡ length b → (differingWords a b ≡ []) ↔ (a ≡ b)
 
--- An event is acceptable, demand 3's word, exactly when its reading is `done` (`AcceptableExact` of crates/dialects/specs/Demands.antt). Of two acceptable events the row list is exactly the differing indices of their rows, in rising order;
+-- An event is acceptable, demand 3's word, exactly when its reading is `done` (`AcceptableExact` of crates/dialects/specs/Demands.antt).
+-- Of two acceptable events the row list is exactly the differing indices of their rows, in rising order;
 abbrev pub RowsExact : Type 0
 RowsExact = (bits : ℕ) (k : Dialect) (o : StampOrder) (a b : List ℕ) (rs ss : List Row) → readingOf bits k o a ≡ done rs → readingOf bits k o b ≡ done ss
     → Rising (rowsApart bits k o a b) × ((d : Difference Row) → List·Memᴰ d (rowsApart bits k o a b) ↔ Apart rs ss d)

@@ -36,7 +36,8 @@ use Rattle.rcnp_layout.proofs.Reading as ReadingR
 use Rattle.rcnp_layout.proofs.Writing as WritingR
 use Rattle.rcnp_layout.proofs.Width as WidthR
 use Rattle.rcnp_layout.proofs.RowCount as RowCountR
-use Rattle.dialects.specs.Demands.{ReadingExact, ReadingInRoomExact, RowsWithinWords, RowsWithinLargest, WritingExact, WritingInRoomExact, WrittenBack, ReadBack, AcceptableExact, RowsOfLayout, SameRuns}
+use Rattle.dialects.specs.Demands.{ReadingExact, ReadingInRoomExact, RowsWithinWords, RowsWithinLargest, WritingExact}
+use Rattle.dialects.specs.Demands.{WritingInRoomExact, WrittenBack, ReadBack, AcceptableExact, RowsOfLayout, SameRuns}
 use Rattle.dialects.specs.declared.Dialect.{Dialect}
 use Rattle.dialects.specs.declared.Dialect.the-variants.{S, F, R}
 use Rattle.dialects.specs.Dialects.{Event, Valid, words, rows, width, reading, largestRows, AcceptableIn, rowsOf}

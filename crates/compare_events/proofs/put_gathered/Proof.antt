@@ -2,7 +2,7 @@
 use mathlib.Core.Path.{sym}
 use lib.Seq.{length-take-le}
 use borrow.Author.Needs.{needs}
-use Rattle.compare_events.proofs.InputLaws.{print-gathered}
+use Rattle.compare_events.proofs.Enough.{print-gathered}
 use Rattle.compare_events.proofs.put_gathered.Statement.{statement}
 use Rattle.compare_events.proofs.put_gathered.Tie as tie
 

@@ -7,7 +7,7 @@ use lib.ListN.{length, take}
 use lib.Seq.{take-all}
 use borrow.Author.Needs.{needs}
 use Rattle.compare_events.specs.Run.{feedsIn}
-use Rattle.compare_events.proofs.InputLaws.{feeds-more, feeds-same}
+use Rattle.compare_events.proofs.Feeds.{feeds-more, feeds-same}
 use Rattle.compare_events.proofs.input.count_feeds.Statement.{statement}
 use Rattle.compare_events.proofs.input.count_feeds.Tie as tie
 

@@ -4,7 +4,7 @@ use mathlib.Core.Path.{_≡_, refl, sym, ap, _∙_}
 use lib.ListN.{length}
 use borrow.Author.Needs.{needs}
 use Rattle.compare_events.specs.Run.{Inside, goesOn}
-use Rattle.compare_events.proofs.InputLaws.{none-read, left, less-left}
+use Rattle.compare_events.proofs.Feeds.{none-read, left, less-left}
 use Rattle.compare_events.proofs.input.gather.Statement.{statement}
 use Rattle.compare_events.proofs.input.gather.Tie as tie
 

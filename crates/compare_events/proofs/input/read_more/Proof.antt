@@ -1,7 +1,7 @@
 -- `input::read_more` meets its contract. Assumes nothing.
 use mathlib.Core.Path.{refl}
 use borrow.Author.Needs.{needs}
-use Rattle.compare_events.proofs.InputLaws.{more-read}
+use Rattle.compare_events.proofs.Feeds.{more-read}
 use Rattle.compare_events.proofs.input.read_more.Statement.{statement}
 use Rattle.compare_events.proofs.input.read_more.Tie as tie
 

@@ -102,7 +102,8 @@ returns-3 c =
     let p : tie.After-put-compared = c .before .before in
     let t : tie.Then1 = p .before .before .before .before in
     let s = start (t .before) in
-    both-put (s .args .dialect) (s .args .order) (s .args .given) (s .args .other) (firstWords s) (secondWords s) (first-given (both-given (t .before)) .given .given .1) (both-given (t .before) .other .given .1)
+    let b = both-given (t .before) in
+    both-put (s .args .dialect) (s .args .order) (s .args .given) (s .args .other) (firstWords s) (secondWords s) (first-given b .given .given .1) (b .other .given .1)
     (first-short t) (second-short t) (p .put-compared .ensures)
 
 returns-4 : tie.Need-returns-4
@@ -110,7 +111,8 @@ returns-4 c =
     let p : tie.After-put-compared2 = c .before .before in
     let t : tie.Else1 = p .before .before .before .before in
     let s = start (t .before) in
-    both-put (s .args .dialect) (s .args .order) (s .args .given) (s .args .other) (firstWords s) (secondWords s) (first-given (both-given (t .before)) .given .given .1) (both-given (t .before) .other .given .1)
+    let b = both-given (t .before) in
+    both-put (s .args .dialect) (s .args .order) (s .args .given) (s .args .other) (firstWords s) (secondWords s) (first-given b .given .given .1) (b .other .given .1)
     (first-long t) (second-long t) (p .put-compared2 .ensures)
 
 pub put-events-spec : {M : Type 1} → statement M

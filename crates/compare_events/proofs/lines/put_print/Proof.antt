@@ -7,7 +7,7 @@ use lib.ListN.{length}
 use lib.Seq.{length-take-le}
 use borrow.Author.Needs.{needs}
 use Rattle.listing.proofs.InputLaws.{first-within}
-use Rattle.compare_events.proofs.InputLaws.{start-within, end-within, print-there}
+use Rattle.compare_events.proofs.InputLines.{start-within, end-within, print-there}
 use Rattle.compare_events.proofs.lines.put_print.Statement.{statement}
 use Rattle.compare_events.proofs.lines.put_print.Tie as tie
 
