@@ -91,7 +91,7 @@ unfolding firstLine
 nothing [] e = refl
 nothing (x ∷ xs) e = impossible cc
 
-pub second-there : (s : List ℕ) → let from = secondStart (firstLine s) (length s) in secondOf s ≡ take (firstLine (drop from s)) (drop from s)
+second-there : (s : List ℕ) → let from = secondStart (firstLine s) (length s) in secondOf s ≡ take (firstLine (drop from s)) (drop from s)
 second-there s = go (feedsIn s) refl (ltb longestLine (firstLine s)) refl
   where
     none : drop (length s) s ≡ []
@@ -116,7 +116,7 @@ start-within count all = go (ltb longestLine count) (ltb count all) refl
     go false false e = omega arith
 
 module _ (s : List ℕ) {count from found : ℕ} (c : count ≡ firstLine s) (f : from ≡ secondStart count (length s)) (g : found ≡ firstLine (take (length s - from) (drop from s))) where
-  pub from-within : from ≤ length s
+  from-within : from ≤ length s
   from-within = rw f (start-within count (length s))
 
   found-there : found ≡ firstLine (drop from s)

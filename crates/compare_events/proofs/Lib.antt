@@ -6,3 +6,4 @@ pub mod InputLines
 pub mod Enough
 pub mod Sides
 pub mod LineLaws
+pub mod Example

@@ -43,7 +43,7 @@ few-from {A} same i (x ∷ xs) (y ∷ ys) = go (same x y) (difference i x y) (di
     go true d ds h = (omega arith, omega arith)
     go false d ds h = (omega arith, omega arith)
 
-pub few-words-apart : (a b : List ℕ) → (length (differingWords a b) ≤ length a) × (length (differingWords a b) ≤ length b)
+few-words-apart : (a b : List ℕ) → (length (differingWords a b) ≤ length a) × (length (differingWords a b) ≤ length b)
 few-words-apart a b = few-from _ 0 a b
 
 pub few-rows-apart : (d : Dialect) (o : StampOrder) (a b : List ℕ) → length (differingRows (reading d o a) (reading d o b)) ≤ largestRows
@@ -87,7 +87,7 @@ module _ (d : Dialect) (o : StampOrder) (a b : List ℕ) (la : length a ≤ most
   parts : (ws ts rs es : List ℕ) → length (ws ++ ts ++ rs ++ es) ≡ length ws + length ts + length rs + length es
   parts ws ts rs es = simp length-append
 
-  pub compared-most : length (comparedText d o a b) ≤ comparedLength
+  compared-most : length (comparedText d o a b) ≤ comparedLength
   unfolding comparedText
   compared-most =
       let last = endText (length (differingWords a b)) (length (tailOf a b)) (length apart) in

@@ -1,3 +1,4 @@
+pub mod Example
 pub mod Lengths
 pub mod Print
 pub mod Run

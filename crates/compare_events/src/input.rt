@@ -1,6 +1,6 @@
 // Standard input, up to the end of its second line.
 use libc::STDIN_FILENO;
-ghost use Prim.Native.Nat.{_+_, _-_, _<_, _≤_};
+ghost use Prim.Native.Nat.{_+_, _≤_};
 ghost use mathlib.Core.Path.{_≡_};
 ghost use mathlib.Core.Bool.{false};
 ghost use lib.ListN.{length};
@@ -14,7 +14,7 @@ pub struct Gathered {
     pub failed: bool,
 }
 
-// Reads up to the second line feed, the end of the input or that of the buffer.
+// Reads up to the second line feed, the end of the input or that of the buffer: behind a line that is too long too, which only two line feeds end.
 pub(crate) fn gather(input: &mut [u8]) -> Gathered
     ensures { λ r. ⌜ Inside (now (input .exit)) r ⌝ }
     ensures { λ r. ⌜ goesOn r (length (now (input .entry))) ≡ false ⌝ }
@@ -32,8 +32,8 @@ pub(crate) fn gather(input: &mut [u8]) -> Gathered
 }
 
 // More is to be read: the last read gave something, two lines are not whole yet, and there is room.
-fn goes_on(state: Gathered, length: usize) -> bool
-    ensures { λ r. ⌜ r ≡ goesOn state length ⌝ }
+fn goes_on(state: Gathered, room: usize) -> bool
+    ensures { λ r. ⌜ r ≡ goesOn state room ⌝ }
 {
     if state.last == 0 {
         return false;
@@ -41,7 +41,7 @@ fn goes_on(state: Gathered, length: usize) -> bool
     if 1 < state.feeds {
         return false;
     }
-    state.end < length
+    state.end < room
 }
 
 // Reads behind what was read, once.

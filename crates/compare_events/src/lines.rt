@@ -46,16 +46,16 @@ pub(crate) fn put_print(order: StampOrder, input: &[u8], text: &mut [u8]) -> usi
 }
 
 // Where the second line starts, of an input of so many characters whose first line has `count`: at its end where there is none.
-fn second_start(count: usize, length: usize) -> usize
-    ensures { λ r. ⌜ r ≡ secondStart count length ⌝ }
+fn second_start(count: usize, all: usize) -> usize
+    ensures { λ r. ⌜ r ≡ secondStart count all ⌝ }
 {
     if LONGEST_LINE < count {
-        return length;
+        return all;
     }
-    if count < length {
+    if count < all {
         return count + 1;
     }
-    length
+    all
 }
 
 // Puts what is printed of two lines at the front.

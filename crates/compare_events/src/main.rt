@@ -1,11 +1,12 @@
 // Compares the events of the first two hexadecimal lines of standard input (document 02, #104), with the default stamp order, and prints what differs. What follows
-// the second line is not waited for. A read that fails ends the program without a word.
+// the second line is not waited for. Where a read fails nothing is printed.
 mod input;
 mod lines;
 mod side16;
 mod side32;
 mod text;
 
+use dialects::LARGEST_ROWS;
 use event::StampOrder;
 use event::default_order;
 use hex_line::LONGEST_LINE;
@@ -28,8 +29,13 @@ const MOST_WORDS: usize = (LONGEST_LINE - 1) / 5;
 
 const MOST_LONGWORDS: usize = (LONGEST_LINE - 1) / 9;
 
-// The most characters that are printed: two refusals, 39 each, 4,096 differing words, 45 each, 4,096 differing rows, 112 each, and the last line, 47.
-const MOST_TEXT: usize = 643197;
+// The most characters that are printed: two refusals, 39 each, differing words, 45 each, differing rows, 112 each, and the last line, 47.
+const MOST_TEXT: usize = 2 * 39 + 45 * MOST_WORDS + 112 * LARGEST_ROWS + 47;
+
+// The numbers of the largest word list, and of the largest row list.
+const WORD_NUMBERS: usize = 3 * MOST_WORDS;
+
+const ROW_NUMBERS: usize = 9 * LARGEST_ROWS;
 
 fn compare_input(order: StampOrder, input: &mut [u8], text: &mut [u8])
     requires { ⌜ (length (now input) ≡ mostInput) × (mostText ≤ length (now text)) ⌝ }

@@ -1,4 +1,6 @@
 // Two events in words of 16 bits side by side: the text of their comparison.
+use crate::ROW_NUMBERS;
+use crate::WORD_NUMBERS;
 use crate::text::put_end;
 use crate::text::put_rows;
 use crate::text::put_tail_line;
@@ -7,7 +9,6 @@ use compare::compare16;
 use compare::tail16;
 use comparison::Comparison;
 use dialects::Dialect;
-use dialects::LARGEST_ROWS;
 use event::StampOrder;
 ghost use Prim.Native.Nat.{_+_, _*_, _≤_};
 ghost use mathlib.Core.Path.{_≡_};
@@ -21,11 +22,6 @@ ghost use Rattle.hex_line.specs.Text.{text as characters, Placed};
 ghost use Rattle.compare_events.specs.Text.{tailLines};
 ghost use Rattle.compare_events.specs.Print.{comparedText};
 ghost use Rattle.compare_events.specs.Lengths.{tailLength, comparedLength};
-
-// The numbers of the largest word list, and of the largest row list.
-const WORD_NUMBERS: usize = 3 * crate::MOST_WORDS;
-
-const ROW_NUMBERS: usize = 9 * LARGEST_ROWS;
 
 // Puts the comparison of two events at `at`.
 pub(crate) fn put_compared<'a>(

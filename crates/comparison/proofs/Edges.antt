@@ -56,6 +56,10 @@ case bits d o a b m n r words rows =
 abbrev m : (length chunk next : ℕ) → List ℕ → List ℕ
 m n x y more = n ∷ 0x5800 ∷ 0x0005 ∷ 0x0006 ∷ 0x5803 ∷ x ∷ y ∷ 0x0001 ∷ 0x0000 ∷ 0x0005 ∷ 0x5804 ∷ 0x0007 ∷ 0x0000 ∷ 0x0000 ∷ more
 
+-- M with the last word of its event number changed
+abbrev last : List ℕ
+last = 0x000e ∷ 0x5800 ∷ 0x0005 ∷ 0x0006 ∷ 0x5803 ∷ 0x1234 ∷ 0x0000 ∷ 0x0001 ∷ 0x0000 ∷ 0x0005 ∷ 0x5804 ∷ 0x0007 ∷ 0x0000 ∷ 0x0001 ∷ []
+
 -- M; one chunk changed; two chunks changed, in one row; word 0 wrong, which is refused; a packet more
 abbrev event : List ℕ
 event = m 0x000e 0x1234 0x0000 []
@@ -113,6 +117,8 @@ cases =
     ∷ case 16 S Crossed changed event 3 9 (Listed 1 1) (5 ∷ 0x1235 ∷ 0x1234 ∷ []) (1 ∷ 2 ∷ 0 ∷ 0 ∷ 0x00011235 ∷ 2 ∷ 0 ∷ 0 ∷ 0x00011234 ∷ [])
     -- rising: another row
     ∷ case 16 S Rising event changed 3 9 (Listed 1 1) word (1 ∷ 2 ∷ 0 ∷ 1 ∷ 0x00001234 ∷ 2 ∷ 0 ∷ 1 ∷ 0x00001235 ∷ [])
+    -- the last word of the event and its last row
+    ∷ case 16 S Crossed event last 3 9 (Listed 1 1) (13 ∷ 0 ∷ 1 ∷ []) (3 ∷ 3 ∷ 0 ∷ 0 ∷ 7 ∷ 3 ∷ 0 ∷ 1 ∷ 7 ∷ [])
     -- 25: neither list is written, place the entries
     ∷ case 16 S Crossed event changed 2 9 (Refused 25 1) (nines 2) (nines 9)
     ∷ case 16 S Crossed event changed 3 8 (Refused 25 1) (nines 3) (nines 8)
@@ -125,6 +131,8 @@ cases =
     ∷ case 16 S Crossed event bad 3 0 (Listed 1 0) (0 ∷ 0x000e ∷ 0x000d ∷ []) []
     ∷ case 16 S Crossed bad event 3 9 (Listed 1 0) (0 ∷ 0x000d ∷ 0x000e ∷ []) (nines 9)
     ∷ case 16 S Crossed bad bad 0 0 (Listed 0 0) [] []
+    ∷ case 16 S Crossed bad (0x000d ∷ []) 0 0 (Listed 0 0) [] []
+    ∷ case 16 S Crossed bad (0x000c ∷ 0x5801 ∷ []) 6 0 (Listed 2 0) (0 ∷ 0x000d ∷ 0x000c ∷ 1 ∷ 0x5800 ∷ 0x5801 ∷ []) []
     ∷ case 16 S Crossed bad event 2 9 (Refused 25 1) (nines 2) (nines 9)
     -- up to the shorter length, and the smaller number of rows
     ∷ case 16 S Crossed event longer 3 9 (Listed 1 0) (0 ∷ 0x000e ∷ 0x0012 ∷ []) (nines 9)

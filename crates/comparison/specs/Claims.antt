@@ -13,7 +13,7 @@ use Rattle.event.specs.Outcome.{done, refused}
 use Rattle.event.specs.Parser.{All}
 use Rattle.dialects.specs.declared.Dialect.{Dialect}
 use Rattle.dialects.specs.Dialects.{width, reading}
-use Rattle.comparison.specs.Differences.{Difference, differences, tailOf}
+use Rattle.comparison.specs.Differences.{Difference, tailOf}
 use Rattle.comparison.specs.Comparing.{differingWords, readingOf, rowsApart}
 
 -- x stands at index i of a list

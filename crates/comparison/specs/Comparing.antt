@@ -55,8 +55,8 @@ bothListed (done ds) (refused n k) = Refused n k
 bothListed (done ds) (done es) = Listed (length ds) (length es)
 
 -- the answer, for lists of so many numbers
-abbrev pub compared : (bits : ℕ) → Dialect → StampOrder → (a b : List ℕ) → (wordRoom rowRoom : ℕ) → Comparison
-compared bits d o a b wordRoom rowRoom = bothListed (wordsListed wordRoom (differingWords a b)) (rowsListed rowRoom (rowsApart bits d o a b))
+abbrev pub compared : (bits : ℕ) → Dialect → StampOrder → (a b : List ℕ) → (wordSize rowSize : ℕ) → Comparison
+compared bits d o a b wordSize rowSize = bothListed (wordsListed wordSize (differingWords a b)) (rowsListed rowSize (rowsApart bits d o a b))
 
 -- a lent list afterwards: its entries over its front; on 25 nothing is written in either
 abbrev pub written : Comparison → List ℕ → List ℕ → List ℕ

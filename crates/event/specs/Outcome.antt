@@ -1,4 +1,4 @@
--- The outcome of a reading (rows), a writing or a line (words), and how a lent buffer and the answer follow from it.
+-- The outcome of a reading (rows), a writing or a line (words), or of a list of differences, and how a lent buffer and the answer follow from it.
 -- Assumes nothing.
 use Prim.Native.Nat.{ℕ}
 use mathlib.Core.Bool.{Bool, true, false, cond}
