@@ -1,4 +1,4 @@
-//! What compare_events prints of its input (02, #104).
+//! What compare_events prints of its input (02, #104, and docs/DECISIONS.md, which fixes the text).
 
 use super::comparison::{tail, Pair};
 use crate::base::{refuse, Order, Refusal};
