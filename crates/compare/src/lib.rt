@@ -104,7 +104,7 @@ pub fn tail16<'a>(first: &'a [u16], second: &'a [u16]) -> &'a [u16]
 pub fn tail32<'a>(first: &'a [u32], second: &'a [u32]) -> &'a [u32]
     ensures { λ r. ⌜ now r ≡ tailOf (now (first .entry)) (now (second .entry)) ⌝ }
 {
-    let m = first.len();
-    let n = second.len();
-    if m < n { &second[m..] } else { &first[n..] }
+    let a = first.len();
+    let b = second.len();
+    if a < b { &second[a..] } else { &first[b..] }
 }
