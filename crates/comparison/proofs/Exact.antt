@@ -4,7 +4,7 @@ use mathlib.Core.Path.{_≡_, refl, sym, ap, _∙_, subst}
 use mathlib.Core.Logic.{⊎-elim, _↔_}
 use mathlib.Core.Bool.{Bool, true, false, cond}
 use mathlib.Core.List.{List, [], _∷_, _++_, append-nil, List·Memᴰ, List·Memᴰ·head, List·Memᴰ·tail, List·Memᴰ·not-nil, List·Memᴰ·cases-cons}
-use Prim.Native.Nat.{ℕ, zero, suc, _+_, _≤_, _<_}
+use Prim.Native.Nat.{ℕ, zero, suc, _+_, _/_, _≤_, _<_}
 use native.Mathlib.Nat.{zero-add, add-zero}
 use native.Mathlib.Omega.{arith}
 use lib.Dec.{eqb, ltb}
@@ -17,13 +17,14 @@ use Rattle.event.specs.Outcome.{Outcome, done, refused}
 use Rattle.event.specs.Parser.{All}
 use Rattle.event.specs.Writing.{sameRow}
 use Rattle.event.proofs.Impossible.{impossible}
+use Rattle.event.proofs.Stores.{over, within}
 use Rattle.event.proofs.RowCodes.{same-fields, fields-same}
 use Rattle.dialects.specs.declared.Dialect.{Dialect}
 use Rattle.dialects.specs.declared.Dialect.the-variants.{S, F, R}
 use Rattle.dialects.specs.Dialects.{reading}
-use Rattle.comparison.specs.Comparing.{differingRows, readingOf}
+use Rattle.comparison.specs.Comparing.{differingWords, differingRows, readingOf, rowsApart}
 use Rattle.comparison.specs.Differences.{Difference, difference, differencesFrom, differences, tailOf}
-use Rattle.comparison.specs.Claims.{Stands, Apart, Rising, WordsExact, SameWords, RowsExact, NoRows, SameRows, OwnWidth, OtherWidth, TailExact}
+use Rattle.comparison.specs.Claims.{Stands, Apart, Rising, WordsExact, SameWords, RowsExact, NoRows, SameRows, RoomExact, OwnWidth, OtherWidth, TailExact}
 
 -- a test that tells whether two are the same
 abbrev Tells : {A : Type 0} → (A → A → Bool) → Type 0
@@ -167,6 +168,16 @@ second-refused (refused m j) n k = refl
 
 pub no-rows : NoRows
 no-rows bits k o a b n p = ⊎-elim (λ e. rw e) (λ e. rw e (second-refused (readingOf bits k o a) n p))
+
+-- room
+pub room-exact : RoomExact
+room-exact bits k o a b m n =
+    let ds = differingWords a b in
+    let es = rowsApart bits k o a b in (
+      λ h. rw (over 25 (m / 3) ds h),
+      λ g h. rw (within 25 (m / 3) ds g, over 25 (n / 9) es h),
+      λ g h. rw (within 25 (m / 3) ds g, within 25 (n / 9) es h),
+    )
 
 -- widths
 pub own-width : OwnWidth

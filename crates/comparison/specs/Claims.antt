@@ -1,6 +1,6 @@
 -- What a list of differences is, said without the way it is made. proofs/Exact shows each.
 -- Assumes nothing.
-use Prim.Native.Nat.{ℕ, zero, suc, _≤_, _<_}
+use Prim.Native.Nat.{ℕ, zero, suc, _/_, _≤_, _<_}
 use mathlib.Core.Path.{_≡_}
 use mathlib.Core.Logic.{_↔_, _⊎_}
 use mathlib.Core.Bool.{false}
@@ -13,8 +13,9 @@ use Rattle.event.specs.Outcome.{done, refused}
 use Rattle.event.specs.Parser.{All}
 use Rattle.dialects.specs.declared.Dialect.{Dialect}
 use Rattle.dialects.specs.Dialects.{width, reading}
+use Rattle.comparison.specs.declared.Comparison.the-variants.{Listed, Refused}
 use Rattle.comparison.specs.Differences.{Difference, tailOf}
-use Rattle.comparison.specs.Comparing.{differingWords, readingOf, rowsApart}
+use Rattle.comparison.specs.Comparing.{differingWords, readingOf, rowsApart, compared}
 
 -- x stands at index i of a list
 abbrev pub Stands : {A : Type 0} → List A → ℕ → A → Type 0
@@ -54,6 +55,13 @@ NoRows = (bits : ℕ) (k : Dialect) (o : StampOrder) (a b : List ℕ) (n p : ℕ
 abbrev pub SameRows : Type 0
 SameRows = (bits : ℕ) (k : Dialect) (o : StampOrder) (a b : List ℕ) (rs ss : List Row) → readingOf bits k o a ≡ done rs → readingOf bits k o b ≡ done ss
     → length rs ≡ length ss → (rowsApart bits k o a b ≡ []) ↔ (rs ≡ ss)
+
+-- 25 exactly where a list does not fit: of the word list, or else of the row list, place the entries that it needs; else both are listed whole. The lists have m and n numbers.
+abbrev pub RoomExact : Type 0
+RoomExact = (bits : ℕ) (k : Dialect) (o : StampOrder) (a b : List ℕ) (m n : ℕ) → let ds = differingWords a b in let es = rowsApart bits k o a b in
+    (m / 3 < length ds → compared bits k o a b m n ≡ Refused 25 (length ds))
+    × (length ds ≤ m / 3 → n / 9 < length es → compared bits k o a b m n ≡ Refused 25 (length es))
+    × (length ds ≤ m / 3 → length es ≤ n / 9 → compared bits k o a b m n ≡ Listed (length ds) (length es))
 
 -- Words of the dialect's own width are read as they are; words of another are no acceptable event, so no rows are listed.
 abbrev pub OwnWidth : Type 0
