@@ -1,20 +1,24 @@
 -- The line feeds of what was read, read by read.
 -- Assumes nothing.
 use Prim.Native.Nat.{ℕ, zero, suc, _+_, _-_, _≤_, _<_}
+use native.Mathlib.Nat.{min-le-right}
 use native.Mathlib.Omega.{arith}
 use native.Mathlib.Numerals.{add-one}
 use mathlib.Core.Path.{_≡_, refl, ap, _∙_}
 use mathlib.Core.Bool.{Bool, true, false, cond}
 use mathlib.Core.List.{List, [], _∷_, _++_}
 use lib.Dec.{eqb}
+use lib.IntN.{ℤ, pos, negsuc}
 use lib.ListN.{length, getD, take, drop, length-append, length-take, length-drop}
+use lib.Signed.{ltZ}
 use lib.Seq.{take-add, take-suc, length-take-le}
 use borrow.Author.Tests.{eqb-true, eq-eqb, ne-eqb}
 use borrow.Rule.Slice.PartMut.{putMid, take-put}
+use Rattle.io.specs.Counts.{clamped}
 use Rattle.event.proofs.Impossible.{impossible}
 use Rattle.event.proofs.WordStores.{part-lent, part-back}
 use Rattle.compare_events.specs.declared.input.Gathered.{Gathered}
-use Rattle.compare_events.specs.Run.{feedsIn, Inside, goesOn}
+use Rattle.compare_events.specs.Run.{feedsIn, afterRead, Inside, goesOn}
 
 pub feeds-append : (s t : List ℕ) → feedsIn (s ++ t) ≡ feedsIn s + feedsIn t
 unfolding feedsIn
@@ -25,6 +29,24 @@ feeds-append (c ∷ s) t = go (eqb c 10) (feeds-append s t)
         → cond b (suc (feedsIn (s ++ t))) (feedsIn (s ++ t)) ≡ cond b (suc (feedsIn s)) (feedsIn s) + feedsIn t
     go true e = omega (arith, e)
     go false e = e
+
+pub feeds-few : (s : List ℕ) → feedsIn s ≤ length s
+unfolding feedsIn
+feeds-few [] = omega arith
+feeds-few (c ∷ s) = go (eqb c 10) (feeds-few s)
+  where
+    go : (b : Bool) → feedsIn s ≤ length s → cond b (suc (feedsIn s)) (feedsIn s) ≤ suc (length s)
+    go true h = omega arith
+    go false h = omega arith
+
+pub clamped-most : (z : ℤ) (most : ℕ) → clamped z most ≤ most
+clamped-most (pos k) most = min-le-right k most
+clamped-most (negsuc k) most = omega arith
+
+-- a number as the machine has it is the number
+pub after-told : (state : Gathered) (got : ℤ) (part : List ℕ) {k f : ℕ} {z : ℤ} → z ≡ got → k ≡ clamped z (length part) → f ≡ feedsIn (take k part)
+    → record { end = state .end + k; feeds = state .feeds + f; last = k; failed = ltZ z (pos 0) } ≡ afterRead state got part
+after-told state got part h e g = rw (g, e, h)
 
 -- one character more
 module _ (s : List ℕ) (i : ℕ) (h : i < length s) where
@@ -54,19 +76,19 @@ module _ {b : List ℕ} {state : Gathered} (i : Inside b state) (part : List ℕ
       ∙ length-append (take (state .end) b) part
       ∙ omega (arith, length-take-le (state .end) b (i .ends), l, ap length (part-lent (state .end) b), length-drop (state .end) b, i .ends)
 
-  pub more-read : {k f : ℕ} {failed : Bool} → length part ≡ length (take (length b - state .end) (drop (state .end) b))
-      → k ≤ length (take (length after - state .end) (drop (state .end) after))
-      → (f ≡ feedsIn (take (state .end + k - state .end) (drop (state .end) after))) × (f ≤ length (take (state .end + k - state .end) (drop (state .end) after)))
-      → Inside after (record { end = state .end + k; feeds = state .feeds + f; last = k; failed = failed })
-  more-read {k} {f} l room fed =
-      let e : state .end + k - state .end ≡ k = omega arith in
-      let counted : f ≡ feedsIn (take k (drop (state .end) after)) = rw e at (fed .0) in
+  pub more-read : (got : ℤ) → length part ≡ length (take (length b - state .end) (drop (state .end) b))
+      → Inside after (afterRead state got (take (length after - state .end) (drop (state .end) after)))
+  more-read got l =
+      let new = take (length after - state .end) (drop (state .end) after) in
+      let k = clamped got (length new) in
+      let few = clamped-most got (length new) in
       let within : state .end + k ≤ length after =
-      omega (arith, room, ap length (part-lent (state .end) after), length-drop (state .end) after, after-length l, i .ends) in
+      omega (arith, few, ap length (part-lent (state .end) after), length-drop (state .end) after, after-length l, i .ends) in
+      let counted : feedsIn (take k new) ≡ feedsIn (take k (drop (state .end) after)) = ap (λ (s : List ℕ). feedsIn (take k s)) (part-lent (state .end) after) in
       record {
         ends = within;
         fed = rw (take-add (state .end) k after, feeds-append, take-put (state .end) (length b - state .end) b part (i .ends)) (omega (arith, counted, i .fed));
-        few = omega (arith, fed .1, e, length-take-most (state .end + k - state .end) (drop (state .end) after), i .few);
+        few = omega (arith, feeds-few (take k new), length-take-most k new, i .few);
       }
 
 positive : (n : ℕ) → eqb n 0 ≡ false → 0 < n

@@ -5,7 +5,10 @@ use mathlib.Core.Path.{_≡_}
 use mathlib.Core.Bool.{Bool, false, cond}
 use mathlib.Core.List.{List, [], _∷_, _++_}
 use lib.Dec.{eqb, ltb}
+use lib.IntN.{ℤ, pos}
 use lib.ListN.{length, take}
+use lib.Signed.{ltZ}
+use Rattle.io.specs.Counts.{clamped}
 use Rattle.event.specs.declared.Answer.{Answer}
 use Rattle.event.specs.declared.Answer.the-variants.{Accepted, Refused}
 use Rattle.event.specs.declared.Row.{Row}
@@ -50,6 +53,16 @@ RowsPut list text at end after = (ds : List (Difference Row)) → list ≡ rowEn
 unfoldable pub feedsIn : List ℕ → ℕ
 feedsIn [] = 0
 feedsIn (c ∷ s) = cond (eqb c 10) (suc (feedsIn s)) (feedsIn s)
+
+-- after a read of `got` characters into a part of the buffer: as many count as are in it, none where the input has ended or the read failed
+abbrev pub afterRead : Gathered → ℤ → List ℕ → Gathered
+afterRead state got part =
+    record {
+      end = state .end + clamped got (length part);
+      feeds = state .feeds + feedsIn (take (clamped got (length part)) part);
+      last = clamped got (length part);
+      failed = ltZ got (pos 0);
+    }
 
 -- what was read lies within the buffer, and its line feeds are counted
 pub record Inside (input : List ℕ) (state : Gathered) : Type 0 where

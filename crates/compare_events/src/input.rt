@@ -1,10 +1,10 @@
 // Standard input, up to the end of its second line.
 use libc::STDIN_FILENO;
-ghost use Prim.Native.Nat.{_+_, _≤_};
+ghost use Prim.Native.Nat.{_+_, _<_, _≤_};
 ghost use mathlib.Core.Path.{_≡_};
 ghost use mathlib.Core.Bool.{false};
 ghost use lib.ListN.{length};
-ghost use Rattle.compare_events.specs.Run.{feedsIn, Inside, goesOn};
+ghost use Rattle.compare_events.specs.Run.{feedsIn, afterRead, Inside, goesOn};
 
 // How many characters were read, and how many line feeds are among them; how many the last read gave, none where the input has ended; whether a read failed.
 pub struct Gathered {
@@ -52,11 +52,18 @@ fn read_more(input: &mut [u8], state: Gathered) -> Gathered
 {
     let end = state.end;
     let got = libc::read(STDIN_FILENO, &mut input[end..]);
-    let more = io::count(got, &input[end..]);
-    let stop = end + more;
+    after_read(state, got, &input[end..])
+}
+
+// After a read of `got` characters into `part`: none came at the end of the input, nor where the read failed, which is told apart.
+fn after_read(state: Gathered, got: isize, part: &[u8]) -> Gathered
+    requires { ⌜ (state .feeds ≤ state .end) × (state .end + length (now part) < 18446744073709551616) ⌝ }
+    ensures { λ r. ⌜ r ≡ afterRead state got (now (part .entry)) ⌝ }
+{
+    let more = io::count(got, part);
     Gathered {
-        end: stop,
-        feeds: state.feeds + count_feeds(&input[end..stop]),
+        end: state.end + more,
+        feeds: state.feeds + count_feeds(&part[..more]),
         last: more,
         failed: got < 0,
     }
