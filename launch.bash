@@ -1,5 +1,6 @@
-# What the launchers list-events and compare-events have in common. It is no command: each of them sources it. Needs `root`, the repository's folder, `name`, the
-# launcher's name, which is that of its crate with - for _, and a function `usage`, which prints how it is called. Sets `program`, the built program.
+# What the launchers have in common. It is no command: each of them sources it, compare-events by itself, the others by list.bash. Needs `root`, the repository's
+# folder, `name`, the launcher's name, which is that of its crate with - for _, and a function `usage`, which prints how it is called. Sets `program`, the built
+# program.
 crate="${name//-/_}"
 program="$root/target/bin/$crate"
 

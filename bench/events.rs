@@ -6,8 +6,8 @@ use second::rng::Rng;
 
 const SEED: u64 = 7;
 
-/// The stamp order of the calls that are timed.
-pub const ORDER: Order = Order::Crossed;
+/// The stamp order of the readings and writings that are timed: the proved ones are given none.
+pub const ORDER: Order = Order::DEFAULT;
 
 /// Words of one event after another, and their rows, four elements each.
 pub struct Events<W> {

@@ -25,8 +25,8 @@ pub enum Order {
 }
 
 impl Order {
-    /// Where no order is given (01, "Two dialects").
-    pub const DEFAULT: Order = Order::Crossed;
+    /// Where no order is given (02, #105).
+    pub const DEFAULT: Order = Order::Rising;
 
     /// For each chunk of the packet, the lowest stamp bit that it holds.
     pub fn shifts(self) -> [u32; 4] {

@@ -15,7 +15,8 @@ const USAGE: &str = "usage: second list [crossed|rising]
        second hosts
        second pair-calls
        second met lines|vectors
-       second compare --seed N --events N [--list-events PATH] [--run-vectors PATH] [--host-calls PATH]
+       second compare --seed N --events N [--list-events PATH] [--list-archive-events PATH]
+                      [--run-vectors PATH] [--host-calls PATH]
        second pairs --seed N --pairs N [--compare-events PATH] [--pair-calls PATH]
        second check";
 
@@ -101,6 +102,7 @@ fn settings(options: &[&str]) -> Result<compare::Settings, String> {
         seed: 1,
         events: 20_000,
         list_events: "target/bin/list_events".to_string(),
+        list_archive_events: "target/bin/list_archive_events".to_string(),
         run_vectors: "target/bin/run_vectors".to_string(),
         host_calls: "target/host/host_calls".to_string(),
     };
@@ -109,6 +111,7 @@ fn settings(options: &[&str]) -> Result<compare::Settings, String> {
             "--seed" => settings.seed = number(name, value)?,
             "--events" => settings.events = number(name, value)? as usize,
             "--list-events" => settings.list_events = value.to_string(),
+            "--list-archive-events" => settings.list_archive_events = value.to_string(),
             "--run-vectors" => settings.run_vectors = value.to_string(),
             "--host-calls" => settings.host_calls = value.to_string(),
             _ => return Err(USAGE.to_string()),

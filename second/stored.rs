@@ -1,5 +1,6 @@
-//! `stored lines` and `stored vectors`: the stored inputs, made with a fixed seed. `stored pads`: what
-//! list_pads prints, which has no input. `stored pair`: the input of compare_events.
+//! `stored lines` and `stored vectors`: the stored inputs of the line programs and of run_vectors, made
+//! with a fixed seed. `stored pads`: what list_pads prints, which has no input. `stored pair`: the input
+//! of compare_events.
 
 use crate::base::Order;
 use crate::dialects::s800::{self, make};

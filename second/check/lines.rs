@@ -5,36 +5,49 @@ use crate::base::{Order, Refusal};
 use crate::dialects::DIALECTS;
 use crate::lines::{self, LONGEST_LINE, MOST_LINES};
 
-/// 01's two lines, the last line feed lacking, and their listing.
+/// 01's two lines, the last line feed lacking.
 pub const LISTED: &str = "S 000e 5800 0005 0006 5803 1234 0000 0001 0000 0005 5804 0007 0000 0000
 S 0001";
 
-const LISTING: &str = "event 00000001 rows 00000004
-00000001 00005803 00000000 00000000
-00000002 00000000 00000000 00011234
-00000001 00005804 00000000 00000000
-00000003 00000000 00000000 00000007
-event 00000002 refused 00000001 place 00000000
-end events 00000001 refused 00000001
-";
-
 pub fn run() -> Result<(), String> {
-    let whole = format!("{LISTED}\n");
-    ensure(listing_of(whole.as_bytes()) == LISTING, "01's listing")?;
-    ensure(listing_of(LISTED.as_bytes()) == LISTING, "01's listing, no last line feed")?;
+    check_listing()?;
     check_ends()?;
     check_words()
 }
 
-fn listing_of(input: &[u8]) -> String {
+/// 01's listing, with and without the last line feed: by default with the stamp row of 02, #105, and
+/// in crossed order as 01 prints it.
+fn check_listing() -> Result<(), String> {
+    let stamps = [(Order::DEFAULT, "00000001 00001234"), (Order::Crossed, "00000000 00011234")];
+    for (order, stamp) in stamps {
+        let listing = format!(
+            "event 00000001 rows 00000004
+00000001 00005803 00000000 00000000
+00000002 00000000 {stamp}
+00000001 00005804 00000000 00000000
+00000003 00000000 00000000 00000007
+event 00000002 refused 00000001 place 00000000
+end events 00000001 refused 00000001
+"
+        );
+        for end in ["\n", ""] {
+            let came = listing_of(format!("{LISTED}{end}").as_bytes(), order);
+            ensure(came == listing, &format!("01's listing, {order:?}, the input's end {end:?}"))?;
+        }
+    }
+    Ok(())
+}
+
+pub fn listing_of(input: &[u8], order: Order) -> String {
     let mut output = Vec::new();
-    lines::list(input, Order::DEFAULT, &mut output, &mut |_, _| {});
+    lines::list(input, order, &mut output, &mut |_, _| {});
     String::from_utf8_lossy(&output).into_owned()
 }
 
 /// The last line of the listing, for few lines, many lines and long lines.
 fn check_ends() -> Result<(), String> {
-    let last_line = |input: &[u8]| listing_of(input).lines().last().unwrap_or("").to_string();
+    let last_line =
+        |input: &[u8]| listing_of(input, Order::DEFAULT).lines().last().unwrap_or("").to_string();
     ensure(last_line(b"") == "end events 00000000 refused 00000000", "no lines")?;
     ensure(last_line(b"\n") == "end events 00000000 refused 00000001", "an empty line")?;
     ensure(last_line(b"S") == "end events 00000000 refused 00000001", "a letter alone")?;

@@ -46,7 +46,7 @@ fn ensure_print(input: &str, print: &str) -> Result<(), String> {
     ensure(came == print, &format!("the print of {input:?} is\n{print}and not\n{came}"))
 }
 
-/// M with itself and with another stamp, in both orders.
+/// M with itself and with another stamp, in both orders and by default.
 fn check_s() -> Result<(), String> {
     let itself = "first  rows 00000004
 second rows 00000004
@@ -68,7 +68,8 @@ end words 00000001 tail 00000000 rows 00000001
     let crossed = stamps("00000000 00011234", "00000000 00021234");
     let rising = stamps("00000001 00001234", "00000002 00001234");
     ensure(print_of(&input, Order::Crossed) == crossed, "the print of two stamps, crossed")?;
-    ensure(print_of(&input, Order::Rising) == rising, "the print of two stamps, rising")
+    ensure(print_of(&input, Order::Rising) == rising, "the print of two stamps, rising")?;
+    ensure_print(&input, &rising)
 }
 
 /// A packet more in the second event, and in the first; no words at all.

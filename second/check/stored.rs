@@ -1,8 +1,9 @@
-//! The stored inputs stay in their limits and meet every refusal that they can; the pads count up; the
-//! stored pair shows each kind of difference.
+//! The stored inputs stay in their limits and meet every refusal that they can; the listings in both
+//! orders differ in their stamps alone; the pads count up; the stored pair shows each kind of
+//! difference.
 
 use super::ensure;
-use super::lines::LISTED;
+use super::lines::{listing_of, LISTED};
 use crate::base::Order;
 use crate::pairs::print::Given;
 use crate::pairs::tail;
@@ -16,6 +17,7 @@ pub fn run() -> Result<(), String> {
     ensure(largest < 1_000_000, "stored inputs are below 1,000,000 bytes")?;
     ensure_met("lines", &Tally::of_lines(&lines), &[Source::Line])?;
     ensure_met("vectors", &Tally::of_vectors(&vectors)?, &[Source::Reading, Source::Writing])?;
+    check_orders(&lines)?;
     check_pads()?;
     check_pair()?;
     check_thinned()
@@ -24,6 +26,19 @@ pub fn run() -> Result<(), String> {
 fn ensure_met(what: &str, met: &Tally, sources: &[Source]) -> Result<(), String> {
     let faults = [met.missing(sources), met.unwanted()].concat();
     ensure(faults.is_empty(), &format!("the stored {what}: {}", faults.join("; ")))
+}
+
+/// The listing of the archive's program is that of list_events with the chunks in the middle of each
+/// stamp (bits 47-32 and 31-16 of a row of kind 2) exchanged, and not a character else.
+fn check_orders(lines: &[u8]) -> Result<(), String> {
+    let [listing, archived] = [Order::DEFAULT, Order::Crossed].map(|o| listing_of(lines, o));
+    let exchanged = |line: &str| match line.starts_with("00000002 ") {
+        true => [&line[..22], &line[27..31], " ", &line[22..26], &line[31..]].concat(),
+        false => line.to_string(),
+    };
+    let is_same = listing.lines().map(exchanged).eq(archived.lines());
+    ensure(is_same, "the listings in both orders differ in their stamps alone")?;
+    ensure(listing != archived, "the stored lines show the stamp order")
 }
 
 /// The pads of connector 0 come first, then those of connector 1, ..: so they count up.

@@ -4,7 +4,8 @@ mod child;
 mod difference;
 pub mod pairs;
 
-use crate::base::Order;
+use crate::base::{Answer, Order};
+use crate::dialects::Words;
 use crate::generate::cases::{self, Case};
 use crate::generate::{damage_line, limits};
 use crate::host::{self, HostCall};
@@ -25,8 +26,16 @@ pub struct Settings {
     pub seed: u64,
     pub events: usize,
     pub list_events: String,
+    pub list_archive_events: String,
     pub run_vectors: String,
     pub host_calls: String,
+}
+
+impl Settings {
+    /// The paths of the line programs, each with the stamp order in which it lists (02, #105).
+    fn line_programs(&self) -> [(&str, Order); 2] {
+        [(&self.list_events, Order::DEFAULT), (&self.list_archive_events, Order::Crossed)]
+    }
 }
 
 struct Batch {
@@ -34,7 +43,7 @@ struct Batch {
     first_event: usize,
     cases: Vec<Case>,
     host_calls: Vec<HostCall>,
-    /// Standard input of the three programs.
+    /// Standard input of the line programs, of run_vectors and of the host call's driver.
     line_text: Vec<u8>,
     vector_text: Vec<u8>,
     host_text: Vec<u8>,
@@ -124,12 +133,9 @@ impl Batch {
         batch
     }
 
-    /// What the three programs should put out.
-    fn expected(&self, tally: &mut Tally) -> [Vec<u8>; 3] {
-        let [mut listing, mut answers, mut hosts] = [vec![], vec![], vec![]];
-        lines::list(&self.line_text, Order::DEFAULT, &mut listing, &mut |words, answer| {
-            tally.add_line(words, answer);
-        });
+    /// What run_vectors and the host call's driver should put out.
+    fn expected(&self, tally: &mut Tally) -> [Vec<u8>; 2] {
+        let [mut answers, mut hosts] = [vec![], vec![]];
         for vector in self.cases.iter().flat_map(|case| &case.vectors) {
             let answer = vector.push_answer(&mut answers);
             tally.add_call(vector, answer);
@@ -137,7 +143,7 @@ impl Batch {
         for call in &self.host_calls {
             tally.add_host(call.push_answer(&mut hosts));
         }
-        [listing, answers, hosts]
+        [answers, hosts]
     }
 }
 
@@ -160,18 +166,17 @@ fn end_lines(rng: &mut Rng, text: &mut Vec<u8>) {
 fn compare_batch(settings: &Settings, batch: &Batch, tally: &mut Tally) -> Result<(), String> {
     let first = batch.first_event + 1;
     let label = |problem: String| format!("seed {}, events from {first}: {problem}", settings.seed);
-    let listing = child::start(&settings.list_events, batch.line_text.clone()).map_err(label)?;
-    let calls = child::start(&settings.run_vectors, batch.vector_text.clone()).map_err(label)?;
-    let hosts = child::start(&settings.host_calls, batch.host_text.clone()).map_err(label)?;
-    let [expected_listing, expected_answers, expected_hosts] = batch.expected(tally);
-    let listing = listing.finish();
-    let calls = calls.finish();
-    let hosts = hosts.finish();
-    judge(&settings.list_events, &batch.line_text, &expected_listing, &listing, |line| {
-        let (event, input) = difference::line_of_output(&batch.line_text, &expected_listing, line);
+    let mut note = |words: Option<&Words>, answer| tally.add_line(words, answer);
+    compare_listings(settings, &batch.line_text, &mut note, |expected, line| {
+        let (event, input) = difference::line_of_output(&batch.line_text, expected, line);
         format!("event {} of the run, input line: {input}", first + event)
     })
     .map_err(label)?;
+    let calls = child::start(&settings.run_vectors, batch.vector_text.clone()).map_err(label)?;
+    let hosts = child::start(&settings.host_calls, batch.host_text.clone()).map_err(label)?;
+    let [expected_answers, expected_hosts] = batch.expected(tally);
+    let calls = calls.finish();
+    let hosts = hosts.finish();
     judge(&settings.run_vectors, &batch.vector_text, &expected_answers, &calls, |line| {
         let index = difference::call_of_output(&expected_answers, line);
         let (event, input) = vector_input(batch, index);
@@ -183,6 +188,29 @@ fn compare_batch(settings: &Settings, batch: &Batch, tally: &mut Tally) -> Resul
         format!("host call {} of the batch: {}", line + 1, String::from_utf8_lossy(&input))
     })
     .map_err(label)
+}
+
+/// Each line program on the same lines; `describe` takes what was expected of it and an output line.
+/// Both orders answer a line alike, so it is given to `note` once.
+fn compare_listings(
+    settings: &Settings,
+    input: &[u8],
+    note: &mut dyn FnMut(Option<&Words>, Answer),
+    describe: impl Fn(&[u8], usize) -> String,
+) -> Result<(), String> {
+    let programs = settings.line_programs();
+    let started = programs.iter().map(|(path, _)| child::start(path, input.to_vec()));
+    let started = started.collect::<Result<Vec<_>, _>>()?;
+    for ((path, order), running) in programs.into_iter().zip(started) {
+        let mut expected = Vec::new();
+        lines::list(input, order, &mut expected, &mut |words, answer| {
+            if order == Order::DEFAULT {
+                note(words, answer);
+            }
+        });
+        judge(path, input, &expected, &running.finish(), |line| describe(&expected, line))?;
+    }
+    Ok(())
 }
 
 /// The event that a vector of the batch belongs to, and the vector's text.
@@ -214,9 +242,6 @@ fn compare_edges(settings: &Settings) -> Result<(), String> {
 /// The inputs at the limits of the listing.
 fn compare_limits(settings: &Settings) -> Result<(), String> {
     limits::each(&mut |what, input| {
-        let running = child::start(&settings.list_events, input.clone())?;
-        let mut expected = Vec::new();
-        lines::list(&input, Order::DEFAULT, &mut expected, &mut |_, _| {});
-        judge(&settings.list_events, &input, &expected, &running.finish(), |_| what.to_string())
+        compare_listings(settings, &input, &mut |_, _| {}, |_, _| what.to_string())
     })
 }

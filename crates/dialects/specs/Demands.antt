@@ -36,7 +36,8 @@ WritingExact = (d : Dialect) (o : StampOrder) (xs ws : List ℕ) → (writing d 
 
 -- The same into a buffer: exactly when there is also room for the words.
 abbrev pub WritingInRoomExact : Type 0
-WritingInRoomExact = (d : Dialect) (room : ℕ) (o : StampOrder) (xs ws : List ℕ) → (writingInto d room o xs ≡ done ws) ↔ (((rs : List Row) × (flat rs ≡ xs) × SomeEventIn d o ws rs) × (length ws ≤ room))
+WritingInRoomExact =
+    (d : Dialect) (room : ℕ) (o : StampOrder) (xs ws : List ℕ) → (writingInto d room o xs ≡ done ws) ↔ (((rs : List Row) × (flat rs ≡ xs) × SomeEventIn d o ws rs) × (length ws ≤ room))
 
 -- What is read is written back,
 abbrev pub WrittenBack : Type 0

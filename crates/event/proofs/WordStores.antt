@@ -92,7 +92,8 @@ module _ (a : ℕ) (b : List ℕ) where
       ∙ rw append-nil
 
 -- words written at the front of the part that starts at the smaller of `at` and the length
-pub part-written : (width : ℕ) (ws b : List ℕ) (at : ℕ) {start : ℕ} {part part′ b′ : List ℕ} → start ≡ min at (length b) → part ≡ take (length b - start) (drop start b) → part′ ≡ storeWords width part 0 ws
+pub part-written : (width : ℕ) (ws b : List ℕ) (at : ℕ) {start : ℕ} {part part′ b′ : List ℕ}
+    → start ≡ min at (length b) → part ≡ take (length b - start) (drop start b) → part′ ≡ storeWords width part 0 ws
     → b′ ≡ putMid start (length b - start) b part′ → b′ ≡ storeWords width b at ws
 part-written width ws b at {start} {part} {part′} s lent w back =
     back ∙ part-back start b part′ ∙ ap (take start b ++_) (w ∙ ap (λ (l : List ℕ). storeWords width l 0 ws) (lent ∙ part-lent start b)) ∙ in-part width ws b at start s

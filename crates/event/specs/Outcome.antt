@@ -12,9 +12,9 @@ use Rattle.event.specs.declared.StampOrder.{StampOrder}
 use Rattle.event.specs.declared.StampOrder.the-variants as stamp
 use Rattle.event.specs.Parser.{Result, ok, refuse}
 
--- the stamp order where none is given
+-- the stamp order where none is given (document 02, #105)
 abbrev pub defaultOrder : StampOrder
-defaultOrder = stamp.Crossed
+defaultOrder = stamp.Rising
 
 -- the stamp order of a number: 0 is crossed, any other rising (the host call refuses those above 1 first, by 31)
 abbrev pub orderOf : ℕ → StampOrder

@@ -64,21 +64,21 @@ pub enum Part {
     Refused { number: u32, place: usize },
 }
 
-// The stamp order where none is given.
+// The stamp order where none is given (document 02, #105).
 pub fn default_order() -> StampOrder
     ensures { λ r. ⌜ r ≡ defaultOrder ⌝ }
 {
-    StampOrder::Crossed
+    StampOrder::Rising
 }
 
 // The stamp order of a number: 0 is crossed, any other rising. (The host call refuses those above 1 first, by 31.)
 pub fn order_of(number: u32) -> StampOrder
     ensures { λ r. ⌜ r ≡ orderOf number ⌝ }
 {
-    if number == 0 {
-        return StampOrder::Crossed;
+    if number != 0 {
+        return StampOrder::Rising;
     }
-    StampOrder::Rising
+    StampOrder::Crossed
 }
 
 // A part that is refused.

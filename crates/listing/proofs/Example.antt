@@ -9,7 +9,7 @@ use Rattle.listing.specs.Example.{Example, Counted, Stops}
 
 pub example : Example
 unfolding character hexOf isDigit digitOf allDigits allGroups wellFormed valueOf firsts field acceptedText refusedText rowText eventText lastText listFrom
-example = refl
+example = (refl, refl)
 
 pub counted : Counted
 unfolding character hexOf isDigit digitOf allDigits allGroups wellFormed valueOf firsts field acceptedText refusedText rowText eventText lastText listFrom

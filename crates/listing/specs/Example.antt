@@ -4,6 +4,7 @@ use Prim.Native.Nat.{ℕ}
 use mathlib.Core.Path.{_≡_}
 use mathlib.Core.List.{List, [], _∷_, _++_}
 use lib.ListN.{replicate}
+use Rattle.event.specs.declared.StampOrder.the-variants.{Crossed}
 use Rattle.event.specs.Outcome.{defaultOrder}
 use Rattle.hex_line.specs.Text.{text}
 use Rattle.listing.specs.Listing.{listFrom, listing}
@@ -11,25 +12,36 @@ use Rattle.listing.specs.Listing.{listFrom, listing}
 abbrev good : List ℕ
 good = text "S 000e 5800 0005 0006 5803 1234 0000 0001 0000 0005 5804 0007 0000 0000\n"
 
-abbrev goodListed : List ℕ
-goodListed =
+-- its rows, by the stamp's
+abbrev goodListed : List ℕ → List ℕ
+goodListed stamp =
     text "event 00000001 rows 00000004\n"
     ++ text "00000001 00005803 00000000 00000000\n"
-    ++ text "00000002 00000000 00000000 00011234\n"
+    ++ stamp
     ++ text "00000001 00005804 00000000 00000000\n"
     ++ text "00000003 00000000 00000000 00000007\n"
 
+abbrev risingStamp : List ℕ
+risingStamp = text "00000002 00000000 00000001 00001234\n"
+
+abbrev crossedStamp : List ℕ
+crossedStamp = text "00000002 00000000 00000000 00011234\n"
+
+abbrev exampleListed : List ℕ → List ℕ
+exampleListed stamp = goodListed stamp ++ text "event 00000002 refused 00000001 place 00000000\n" ++ text "end events 00000001 refused 00000001\n"
+
+-- in the default order (document 02, #105), and in crossed, the archive's, where the stamp row is document 01's
 abbrev pub Example : Type 0
 Example =
-    listing defaultOrder (good ++ text "S 0001\n")
-    ≡ goodListed ++ text "event 00000002 refused 00000001 place 00000000\n" ++ text "end events 00000001 refused 00000001\n"
+    (listing defaultOrder (good ++ text "S 0001\n") ≡ exampleListed risingStamp)
+    × (listing Crossed (good ++ text "S 0001\n") ≡ exampleListed crossedStamp)
 
 -- an empty line, an upper-case digit, a line of no words, the smallest event of R and the same with another sum, and spoken case 10 as a last line without its line feed
 abbrev pub Counted : Type 0
 Counted =
     listing defaultOrder (good ++ text "\n" ++ text "S 000A\n" ++ text "S\n" ++ text "R f001 0fff\n" ++ text "R f001 0ffe\n"
     ++ text "F 00000200 00f717ff 01f738e1 02f70563 32000001 0000002a 34000000")
-    ≡ goodListed
+    ≡ goodListed risingStamp
     ++ text "event 00000002 refused 0000001e place 00000000\n"
     ++ text "event 00000003 refused 0000001e place 00000000\n"
     ++ text "event 00000004 refused 00000001 place 00000000\n"

@@ -1,0 +1,4 @@
+pub mod Texts
+pub mod LineCalls
+pub mod Steps
+pub mod Turns

@@ -1,0 +1,49 @@
+-- `streams::go_on` meets its contract. Assumes nothing.
+use Prim.Native.Nat.{_-_}
+use native.Mathlib.Omega.{arith}
+use mathlib.Core.Path.{refl, sym, _∙_}
+use mathlib.Core.Bool.{false≢true}
+use mathlib.Core.List.{[], append-nil}
+use lib.ListN.{drop}
+use borrow.Author.Needs.{needs}
+use Rattle.list_input.specs.Run.{restOf}
+use Rattle.list_input.proofs.Turns.{piece-behind}
+use Rattle.list_input.proofs.streams.go_on.Statement.{statement}
+use Rattle.list_input.proofs.streams.go_on.Tie as tie
+
+returns : tie.Need-returns
+returns c =
+    let s : tie.Start = c .before .before .before in record {
+      piece = [];
+      last = λ e. (refl, e);
+      rest = sym (append-nil _);
+      begins = s .pre .0 .0;
+      ends = s .pre .0 .1;
+      at = refl;
+      accepted = refl;
+      refused = refl;
+      over = refl;
+    }
+
+returns-2 : tie.Need-returns-2
+returns-2 c =
+    let r : tie.After-refill = c .before .before in
+    let t : tie.After-enum-told = r .before .before in
+    let s : tie.Start = t .before .before .before .before in
+    let e = r .refill .ensures in
+    let m = s .pre .1 (t .enum-told .given .1) in
+    let k = s .args .put .run .end - s .args .put .run .from in
+    let rest = restOf (r .refill .result .run) (r .refill .last .0) in record {
+      piece = drop k rest;
+      last = λ t. absurd (false≢true (sym (m .0) ∙ t));
+      rest = piece-behind k rest (e .1 .0);
+      begins = omega (arith, e .0 .0);
+      ends = e .0 .1;
+      at = e .1 .1 .0;
+      accepted = e .1 .1 .1;
+      refused = e .1 .1 .2;
+      over = e .1 .1 .3 ∙ sym (m .1);
+    }
+
+pub go-on-spec : {M : Type 1} → statement M
+go-on-spec = tie.close (tie.spec (λ c. search needs) returns (λ c κs. search needs) (λ c. search needs) returns-2)

@@ -1,0 +1,85 @@
+-- `streams::turn` meets its contract. Assumes nothing.
+use mathlib.Core.Path.{refl, sym}
+use mathlib.Core.Bool.{true}
+use mathlib.Core.List.{List, [], append-nil}
+use Prim.Native.Nat.{ℕ}
+use lib.ListN.{length, take}
+use borrow.Author.Needs.{needs}
+use Rattle.list_input.specs.declared.Turn.{Turn}
+use Rattle.list_input.specs.Run.{Inside, pointOf, MorePut, Fed}
+use Rattle.list_input.specs.Turns.{Listed}
+use Rattle.list_input.proofs.Steps.{emptied}
+use Rattle.list_input.proofs.Turns.{turned}
+use Rattle.list_input.proofs.streams.turn.Statement.{statement}
+use Rattle.list_input.proofs.streams.turn.Tie as tie
+
+-- The places: the entry, where the text is to be put anew, where it was put, and where it was written.
+abbrev entry : tie.After-without-text → tie.Start
+entry c = c .before .before .before .before .before .before .before .before .before .before .before
+
+abbrev text-put : tie.After-write → tie.After-list-more
+text-put c = c .before .before .before .before .before .before .before .before .before .before .before
+
+list-more-requires : tie.Need-list-more-requires
+list-more-requires c κs = let s = entry c in (rw (c .without-text .ensures) (emptied (s .pre .0 .0)), s .pre .1)
+
+write-requires : tie.Need-write-requires
+write-requires c κs =
+    let l : tie.After-list-more = c .before .before .before .before .before .before .before .before .before .before in
+    rw (l .list-more .kept .1 .1 .1 .1 .1 .1 .0) (l .list-more .ensures .0 .text)
+
+-- what was put of a run whose text was written
+module _ (l : tie.After-list-more) where
+  abbrev start : tie.Start
+  start = entry (l .before)
+
+  put-anew : MorePut (start .args .order) (start .args .state .ended) (start .args .input .now)
+      (record { from = start .args .state .run .from; end = start .args .state .run .end; at = 0; accepted = start .args .state .run .accepted; refused = start .args .state .run .refused })
+      (start .args .text .now) (l .list-more .result) (l .list-more .last .1 .1 .1 .1 .1 .1 .0)
+  put-anew = rw (l .before .without-text .ensures) at (l .list-more .ensures .1 .1)
+
+  by-fed : {state′ : Turn} {input′ : List ℕ} → Fed (l .list-more .result) (start .args .state .ended) (start .args .input .now) state′ input′
+      → Inside (length (start .args .input .now)) (length (start .args .text .now)) (state′ .run)
+      × Listed (start .args .order) (pointOf (start .args .state) (start .args .input .now)) (take (state′ .run .at) (l .list-more .last .1 .1 .1 .1 .1 .1 .0)) (pointOf state′ input′)
+  by-fed {state′} {input′} f =
+      let i = l .list-more .ensures .0 in (
+        record { begins = f .begins; ends = f .ends; text = rw (f .at) (i .text); lines = rw (f .accepted, f .refused) (i .lines) },
+        turned (start .args .order) (start .args .state) (l .list-more .result) state′ (start .args .input .now) (start .args .text .now) _ input′ (start .pre .0 .1) put-anew f,
+      )
+
+returns : tie.Need-returns
+returns c =
+    let l = text-put (c .before .before) in
+    let p = l .list-more .result in
+    let i = l .list-more .ensures .0 in
+    rw (c .stopped .ensures) (by-fed l {state′ = record { run = p .run; ended = start l .args .state .ended; over = p .over; failed = true }} (record {
+      piece = [];
+      last = λ e. (refl, e);
+      rest = sym (append-nil _);
+      begins = i .begins;
+      ends = i .ends;
+      at = refl;
+      accepted = refl;
+      refused = refl;
+      over = refl;
+    }))
+
+go-on-requires : tie.Need-go-on-requires
+go-on-requires c κs =
+    let l = text-put (c .before .before) in
+    let i = l .list-more .ensures .0 in
+    ((i .begins, i .ends), l .list-more .ensures .1 .0)
+
+returns-2 : tie.Need-returns-2
+returns-2 c =
+    let g : tie.After-go-on = c .before .before in
+    let l = text-put (g .before .before .before) in
+    by-fed l (g .go-on .ensures)
+
+pub turn-spec : {M : Type 1} → statement M
+turn-spec =
+    tie.close
+    (tie.spec (λ c κs. search needs) list-more-requires write-requires (λ c κs. search needs)
+    (λ c. search needs) (λ c. search needs) (λ c. search needs) (λ c. search needs) (λ c. search needs)
+    returns go-on-requires
+    (λ c. search needs) (λ c. search needs) (λ c. search needs) (λ c. search needs) (λ c. search needs) returns-2)

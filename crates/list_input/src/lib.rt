@@ -1,0 +1,137 @@
+// What the line programs share: lists the hexadecimal lines of standard input (document 01, 'The hexadecimal lines') on standard output, in the stamp order that a
+// program names. A line is listed as soon as it was read, and what is listed is written before more is waited for. A write that fails ends the listing at once. A
+// read that fails ends it without a last line.
+mod lines;
+mod streams;
+
+use event::StampOrder;
+use hex_line::LONGEST_LINE;
+use listing::Next;
+use streams::turn;
+ghost use Prim.Native.Nat.{_+_, _<_, _≤_};
+ghost use mathlib.Core.Path.{_≡_};
+ghost use mathlib.Core.Bool.{true, false};
+ghost use lib.ListN.{length, take};
+ghost use Rattle.hex_line.specs.Line.{longestLine};
+ghost use Rattle.listing.specs.Lengths.{mostText, lastLength};
+ghost use Rattle.list_input.specs.Run.{Rooms};
+ghost use Rattle.list_input.specs.Turns.{Wrote};
+
+// The characters of the input, and of the text, that are held at a time.
+pub const BUFFER: usize = 262144;
+
+// The most words of a line that is not too long, and the elements of as many rows.
+pub const MOST_WORDS: usize = (LONGEST_LINE - 1) / 5;
+
+pub const MOST_LONGWORDS: usize = (LONGEST_LINE - 1) / 9;
+
+pub const MOST_ELEMENTS: usize = 4 * MOST_WORDS;
+
+// Where a run stands: input[from..end] was read and is not listed yet, text[..at] was put last, and so many lines were listed.
+struct Run {
+    from: usize,
+    end: usize,
+    at: usize,
+    accepted: u64,
+    refused: u64,
+}
+
+// A run, and what comes next of its input.
+struct Listed {
+    run: Run,
+    next: Next,
+}
+
+// The same, and whether the text is put to the listing's end.
+struct Put {
+    run: Run,
+    next: Next,
+    over: bool,
+}
+
+// A run after a turn: whether its input has ended, whether its text was put to the listing's end, and whether a read or a write failed.
+struct Turn {
+    run: Run,
+    ended: bool,
+    over: bool,
+    failed: bool,
+}
+
+// How a listing ended: so many characters of the text were put last, and whether all of the listing was put and written. It was not where a read or a write failed.
+pub struct Ended {
+    pub put: usize,
+    pub whole: bool,
+}
+
+// Lists standard input. The buffers' contents before the call do not matter.
+pub fn list(
+    order: StampOrder,
+    input: &mut [u8; BUFFER],
+    words: &mut [u16; MOST_WORDS],
+    longwords: &mut [u32; MOST_LONGWORDS],
+    rows: &mut [u32; MOST_ELEMENTS],
+    text: &mut [u8; BUFFER],
+) -> Ended
+    ensures { λ r. ⌜ Wrote order (r .whole) (take (r .put) (now (text .exit))) ⌝ }
+{
+    list_turns(order, input, words, longwords, rows, text)
+}
+
+fn list_turns(
+    order: StampOrder,
+    input: &mut [u8],
+    words: &mut [u16],
+    longwords: &mut [u32],
+    rows: &mut [u32],
+    text: &mut [u8],
+) -> Ended
+    requires { ⌜ Rooms (now words) (now longwords) (now rows) ⌝ }
+    requires { ⌜ (longestLine < length (now input)) × (mostText + lastLength ≤ length (now text)) ⌝ }
+    ensures { λ r. ⌜ Wrote order (r .whole) (take (r .put) (now (text .exit))) ⌝ }
+{
+    let mut state = Turn {
+        run: Run {
+            from: 0,
+            end: 0,
+            at: 0,
+            accepted: 0,
+            refused: 0,
+        },
+        ended: false,
+        over: false,
+        failed: false,
+    };
+    let mut turns = u64::MAX;
+    while goes_on(state, turns) {
+        turns -= 1;
+        state = turn(order, input, words, longwords, rows, text, state);
+    }
+    ending(state)
+}
+
+// There is more to do. (So many turns as a 64-bit number holds are never taken.)
+fn goes_on(state: Turn, turns: u64) -> bool
+    ensures { λ r. ⌜ (r ≡ true → (0 < turns) × (state .over ≡ false)) ⌝ }
+{
+    if turns == 0 {
+        return false;
+    }
+    if state.over {
+        return false;
+    }
+    !state.failed
+}
+
+fn ending(state: Turn) -> Ended
+    ensures { λ r. ⌜ (r .put ≡ state .run .at) × (r .whole ≡ true → state .over ≡ true) ⌝ }
+{
+    let run = state.run;
+    let put = run.at;
+    if state.failed {
+        return Ended { put, whole: false };
+    }
+    Ended {
+        put,
+        whole: state.over,
+    }
+}
