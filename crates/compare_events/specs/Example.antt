@@ -18,6 +18,10 @@ more = text "S 0012 5800 0005 0006 5803 1234 0000 0001 0000 0005 5804 0008 0000 
 abbrev f : List ℕ
 f = text "F 00000200 00f717ff 01f738e1 02f70563 32000001 0000002a 34000000"
 
+-- M with another chunk of its stamp
+abbrev stamp : List ℕ
+stamp = text "S 000e 5800 0005 0006 5803 1234 0000 0002 0000 0005 5804 0007 0000 0000\n"
+
 abbrev nothing : List ℕ
 nothing = text "cut words 00000000 tail 00000000 rows 00000000\n"
 
@@ -35,6 +39,17 @@ Longer =
     ++ text "row 00000003 first  00000003 00000000 00000000 00000007\n"
     ++ text "row 00000003 second 00000003 00000000 00000000 00000008\n"
     ++ text "end words 00000002 tail 00000004 rows 00000001\n"
+
+-- the rows of the stamps in the default order, rising (document 02, #105)
+abbrev pub Stamps : Type 0
+Stamps =
+    printed defaultOrder (m ++ stamp)
+    ≡ text "first  rows 00000004\n"
+    ++ text "second rows 00000004\n"
+    ++ text "word 00000007 first 00000001 second 00000002\n"
+    ++ text "row 00000001 first  00000002 00000000 00000001 00001234\n"
+    ++ text "row 00000001 second 00000002 00000000 00000002 00001234\n"
+    ++ text "end words 00000001 tail 00000000 rows 00000001\n"
 
 -- a refused event, the tail of the first, and a second line without its line feed
 abbrev pub Shorter : Type 0

@@ -18,6 +18,7 @@ ghost use Prim.Native.Nat.{_≤_};
 ghost use mathlib.Core.Path.{_≡_};
 ghost use mathlib.Core.Bool.{false};
 ghost use lib.ListN.{length};
+ghost use Rattle.event.specs.Outcome.{defaultOrder};
 ghost use Rattle.compare_events.specs.Lengths.{mostInput, mostText};
 ghost use Rattle.compare_events.specs.Run.{Inside, goesOn, PrintPut};
 
@@ -37,7 +38,9 @@ const WORD_NUMBERS: usize = 3 * MOST_WORDS;
 
 const ROW_NUMBERS: usize = 9 * LARGEST_ROWS;
 
+// Compares in the default stamp order: no order is given to this program.
 fn compare_input(order: StampOrder, input: &mut [u8], text: &mut [u8])
+    requires { ⌜ order ≡ defaultOrder ⌝ }
     requires { ⌜ (length (now input) ≡ mostInput) × (mostText ≤ length (now text)) ⌝ }
 {
     let gathered = gather(input);

@@ -84,7 +84,7 @@ module _ (o : StampOrder) (ended : Bool) (input text : List ℕ) (run : Run) (in
   abbrev rest : List ℕ
   rest = restOf run input
 
-  rest-length : length rest ≡ run .end - run .from
+  pub rest-length : length rest ≡ run .end - run .from
   rest-length = simp (length-take, length-drop) (omega (arith, inside .begins, inside .ends))
 
   -- the first line lies within the run

@@ -1,17 +1,24 @@
 -- Turns one after the other: their text is the listing of what came in, whatever the pieces.
 -- Assumes nothing.
-use Prim.Native.Nat.{ℕ}
+use Prim.Native.Nat.{ℕ, _+_, _-_, _≤_, _<_}
+use native.Mathlib.Omega.{arith}
 use mathlib.Core.Path.{_≡_, refl, sym, ap, _∙_}
-use mathlib.Core.Bool.{Bool, true, false}
+use mathlib.Core.Bool.{Bool, true, false, cond, not, _&&_, false≢true}
+use mathlib.Core.Logic.{_⊎_, ⊎-elim, inl, inr}
 use mathlib.Core.List.{List, [], _∷_, _++_, append-assoc, append-nil}
-use lib.ListN.{take, drop, take-append-drop}
+use lib.ListN.{length, take, drop, take-append-drop, length-append, length-take, length-drop}
+use lib.Seq.{length-take-le}
 use Rattle.event.specs.declared.StampOrder.{StampOrder}
+use Rattle.event.proofs.Impossible.{impossible}
+use Rattle.listing.specs.declared.Next.{Next}
+use Rattle.listing.specs.declared.Next.the-variants.{Line, Long, More, End, Cut}
+use Rattle.listing.specs.Lengths.{mostText, lastLength}
 use Rattle.listing.specs.Listing.{linesOf, listFrom, listing}
 use Rattle.list_input.specs.declared.Put.{Put}
 use Rattle.list_input.specs.declared.Run.{Run}
 use Rattle.list_input.specs.declared.Turn.{Turn}
-use Rattle.list_input.specs.Run.{restOf, pointOf, MorePut, Fed}
-use Rattle.list_input.specs.Turns.{Point, start, toCome, Turned, Listed, Step, Follow, behindAll, cameIn, wasPut, ListsWhole, Wrote}
+use Rattle.list_input.specs.Run.{restOf, pointOf, MorePut, Fed, Halts}
+use Rattle.list_input.specs.Turns.{Point, start, toCome, endCount, Turned, Listed, Step, Follow, behindAll, cameIn, wasPut, ListsWhole, GoOn, FewTurns, mostTurns, Wrote}
 
 -- where the input has ended nothing more comes in
 ended-stays : (o : StampOrder) (p : Point) (steps : List Step) → Follow o p steps → p .ended ≡ true → (cameIn steps ≡ []) × (behindAll p steps .ended ≡ true)
@@ -42,16 +49,31 @@ lists-whole o steps f e =
     ∙ sym (put-by-turns o start steps f [] (λ _. refl))
     ∙ ap (listing o) (append-nil (cameIn steps))
 
--- a listing so far: turns from the start to a point, and the text of the last of them
-pub record Told (o : StampOrder) (p : Point) (last : List ℕ) : Type 0 where
+-- each turn takes in a character, or puts one, or finds the end of the input
+few : (o : StampOrder) (p : Point) (steps : List Step) → Follow o p steps → GoOn steps
+    → length steps + endCount p ≤ length (cameIn steps) + length (wasPut steps) + endCount (behindAll p steps)
+few o p [] f g = omega arith
+few o p (s ∷ steps) f g =
+    omega (arith, few o (s .after) steps (f .1) (g .2), f .0 .moves (g .0) (g .1), length-append (s .piece) (cameIn steps), length-append (s .put) (wasPut steps))
+
+pub few-turns : FewTurns
+few-turns o steps f g = omega (arith, few o start steps f g, once (behindAll start steps .ended))
+  where
+    once : (b : Bool) → cond b 1 0 ≤ 1
+    once true = omega arith
+    once false = omega arith
+
+-- a listing so far: turns from the start to a point, the text of the last of them, and how many more may be taken
+pub record Told (o : StampOrder) (p : Point) (last : List ℕ) (turns : ℕ) : Type 0 where
   pub steps : List Step
   pub before : List ℕ
   pub follow : Follow o start steps
   pub at : behindAll start steps ≡ p
   pub text : wasPut steps ≡ before ++ last
+  pub left : turns + length steps ≡ mostTurns
 
-pub told-start : (o : StampOrder) → Told o start []
-told-start o = record { steps = []; before = []; follow = tt; at = refl; text = refl }
+pub told-start : (o : StampOrder) → Told o start [] mostTurns
+told-start o = record { steps = []; before = []; follow = tt; at = refl; text = refl; left = omega arith }
 
 -- one turn more
 module _ (o : StampOrder) (s : Step) where
@@ -67,8 +89,8 @@ module _ (o : StampOrder) (s : Step) where
   put-more [] = append-nil (s .put)
   put-more (first ∷ steps) = ap (first .put ++_) (put-more steps) ∙ sym (append-assoc (first .put) (wasPut steps) (s .put))
 
-pub told-turn : {o : StampOrder} {p p′ : Point} {last put : List ℕ} → Told o p last → Listed o p put p′ → Told o p′ put
-told-turn {o} {p} {p′} {last} {put} t l =
+pub told-turn : {o : StampOrder} {p p′ : Point} {last put : List ℕ} {turns : ℕ} → Told o p last turns → 0 < turns → Listed o p put p′ → Told o p′ put (turns - 1)
+told-turn {o} {p} {p′} {last} {put} t h l =
     let s : Step = record { piece = l .0; put = put; after = p′ } in
     record {
       steps = t .steps ++ (s ∷ []);
@@ -76,29 +98,81 @@ told-turn {o} {p} {p′} {last} {put} t l =
       follow = follow-more o s start (t .steps) (t .follow) (rw (t .at) (l .1));
       at = behind-more o s start (t .steps);
       text = put-more o s (t .steps);
+      left = omega (arith, h, t .left, length-append (t .steps) (s ∷ []));
     }
 
-pub told-wrote : {o : StampOrder} {p : Point} {last : List ℕ} (whole : Bool) → (whole ≡ true → p .over ≡ true) → Told o p last → Wrote o whole last
-told-wrote {o} {p} whole over t = record {
+-- where no more turns are taken
+pub told-wrote : {o : StampOrder} {p : Point} {last : List ℕ} {turns : ℕ} (whole : Bool) → whole ≡ p .over && not (p .failed)
+    → (p .over ≡ false → p .failed ≡ false → turns ≡ 0) → Told o p last turns → Wrote o whole last
+told-wrote {o} {p} {last} {turns} whole e z t = record {
   steps = t .steps;
   before = t .before;
   follow = t .follow;
   text = t .text;
-  listed = λ e. lists-whole o (t .steps) (t .follow) (rw (t .at) (over e));
+  listed = λ w. lists-whole o (t .steps) (t .follow) (rw (t .at) (over (p .over) refl w));
+  stopped = λ w h. (let f : p .failed ≡ false = rw (t .at) at h in omega (arith, t .left, z (on (p .over) refl w f) f));
 }
+  where
+    over : (b : Bool) → p .over ≡ b → whole ≡ true → p .over ≡ true
+    over true q w = q
+    over false q w = absurd (false≢true (rw q at (sym e ∙ w)))
+
+    on : (b : Bool) → p .over ≡ b → whole ≡ false → p .failed ≡ false → p .over ≡ false
+    on true q w f = absurd (false≢true (sym (rw (q, f) at (sym e ∙ w))))
+    on false q w f = q
 
 -- characters before which all that was to be listed stands, by the piece behind it
 pub piece-behind : (k : ℕ) (whole : List ℕ) {rest : List ℕ} → take k whole ≡ rest → whole ≡ rest ++ drop k whole
 piece-behind k whole e = sym (take-append-drop k whole) ∙ ap (_++ drop k whole) e
 
+-- of those that are read behind k others some come in
+pub piece-some : (run : Run) (input : List ℕ) (k : ℕ) → run .from ≡ 0 → run .end ≤ length input → k < run .end → 0 < length (drop k (restOf run input))
+piece-some run input k e h l = simp (length-drop, length-take) (omega (arith, e, h, l))
+
+-- more of the input is needed, or it is not
+needed : (n : Next) → (n ≡ More) ⊎ (n ≡ More → ⊥)
+needed (Line k) = inr (λ e. impossible cc)
+needed (Long k) = inr (λ e. impossible cc)
+needed More = inl refl
+needed End = inr (λ e. impossible cc)
+needed Cut = inr (λ e. impossible cc)
+
 -- a turn of the program: text that was put from a run whose text was written, and then a piece that came in
-pub turned : (o : StampOrder) (state : Turn) (put : Put) (state′ : Turn) (input text text′ input′ : List ℕ) → state .over ≡ false
-    → MorePut o (state .ended) input (record { from = state .run .from; end = state .run .end; at = 0; accepted = state .run .accepted; refused = state .run .refused }) text put text′
-    → Fed put (state .ended) input state′ input′ → Listed o (pointOf state input) (take (state′ .run .at) text′) (pointOf state′ input′)
-turned o state put state′ input text text′ input′ on m f = (f .piece, record { last = f .last; puts = puts })
-  where
-    puts : (later : List ℕ) → (state′ .ended ≡ true → later ≡ [])
-        → toCome o (pointOf state input) (f .piece ++ later) ≡ take (state′ .run .at) text′ ++ toCome o (pointOf state′ input′) later
-    puts later l =
-        let nothing : state .ended ≡ true → f .piece ++ later ≡ [] = λ e. (let n = f .last e in rw (n .0, l (n .1)) refl) in
-        rw (on, f .at, f .accepted, f .refused, f .over, f .rest, append-assoc (restOf (put .run) input) (f .piece) later) (m (f .piece ++ later) nothing)
+module _ (o : StampOrder) (state : Turn) (put : Put) (state′ : Turn) (input text text′ input′ : List ℕ) (f : Fed put (state .ended) input state′ input′) where
+  by-pieces : state .over ≡ false
+      → MorePut o (state .ended) input (record { from = state .run .from; end = state .run .end; at = 0; accepted = state .run .accepted; refused = state .run .refused }) text put text′
+      → (later : List ℕ) → (state′ .ended ≡ true → later ≡ [])
+      → toCome o (pointOf state input) (f .piece ++ later) ≡ take (state′ .run .at) text′ ++ toCome o (pointOf state′ input′) later
+  by-pieces on m later l =
+      let nothing : state .ended ≡ true → f .piece ++ later ≡ [] = λ e. (let n = f .last e in rw (n .0, l (n .1)) refl) in
+      rw (on, f .at, f .accepted, f .refused, f .over, f .rest, append-assoc (restOf (put .run) input) (f .piece) later) (m (f .piece ++ later) nothing)
+
+  moved : Halts (state .ended) (length text′) put → mostText + lastLength ≤ length text′ → put .run .at ≤ length text′ → state′ .over ≡ false → state′ .failed ≡ false
+      → endCount (pointOf state input) < length (take (state′ .run .at) text′) + length (f .piece) + endCount (pointOf state′ input′)
+  moved h r w on good = ⊎-elim more full (needed (put .next))
+    where
+      at : length (take (state′ .run .at) text′) ≡ put .run .at
+      at = ap (λ (n : ℕ). length (take n text′)) (f .at) ∙ length-take-le (put .run .at) text′ w
+
+      more : put .next ≡ More → endCount (pointOf state input) < length (take (state′ .run .at) text′) + length (f .piece) + endCount (pointOf state′ input′)
+      more e = rw (h .more e .0) (go (state′ .ended) refl)
+        where
+          go : (b : Bool) → state′ .ended ≡ b → 0 < length (take (state′ .run .at) text′) + length (f .piece) + cond (state′ .ended) 1 0
+          go true t = rw t (omega arith)
+          go false t = rw t (omega (arith, f .some e t good))
+
+      full : (put .next ≡ More → ⊥) → endCount (pointOf state input) < length (take (state′ .run .at) text′) + length (f .piece) + endCount (pointOf state′ input′)
+      full e = go (state .ended) refl
+        where
+          some : 0 < put .run .at
+          some = omega (arith, h .full (sym (f .over) ∙ on) e, r)
+
+          go : (b : Bool) → state .ended ≡ b → cond (state .ended) 1 0 < length (take (state′ .run .at) text′) + length (f .piece) + cond (state′ .ended) 1 0
+          go true t = rw (t, f .last t .1) (omega (arith, at, some))
+          go false t = rw t (omega (arith, at, some))
+
+  pub turned : state .over ≡ false
+      → MorePut o (state .ended) input (record { from = state .run .from; end = state .run .end; at = 0; accepted = state .run .accepted; refused = state .run .refused }) text put text′
+      → Halts (state .ended) (length text′) put → mostText + lastLength ≤ length text′ → put .run .at ≤ length text′
+      → Listed o (pointOf state input) (take (state′ .run .at) text′) (pointOf state′ input′)
+  turned on m h r w = (f .piece, record { last = f .last; puts = by-pieces on m; moves = moved h r w })

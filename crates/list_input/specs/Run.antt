@@ -11,17 +11,17 @@ use Rattle.event.specs.declared.Row.{Row}
 use Rattle.event.specs.declared.StampOrder.{StampOrder}
 use Rattle.event.specs.Outcome.{answerOf, given}
 use Rattle.dialects.specs.declared.Dialect.the-variants.{S, F}
-use Rattle.hex_line.specs.Line.{mostWords}
+use Rattle.hex_line.specs.Line.{longestLine, mostWords}
 use Rattle.hex_line.specs.Text.{Placed}
 use Rattle.listing.specs.declared.Next.{Next}
 use Rattle.listing.specs.declared.Next.the-variants.{Line, Long, More, End, Cut}
 use Rattle.listing.specs.Listing.{mostLines, linesOf, lineRows, acceptedIn, refusedIn, listFrom}
-use Rattle.listing.specs.Lengths.{mostRows, mostText}
+use Rattle.listing.specs.Lengths.{mostRows, mostText, lastLength}
 use Rattle.listing.specs.Text.{eventText}
 use Rattle.list_input.specs.declared.Put.{Put}
 use Rattle.list_input.specs.declared.Run.{Run}
 use Rattle.list_input.specs.declared.Turn.{Turn}
-use Rattle.list_input.specs.Turns.{Point, toCome}
+use Rattle.list_input.specs.Turns.{Point}
 
 -- a run within an input buffer of n characters and a text buffer of m
 pub record Inside (n m : ℕ) (run : Run) : Type 0 where
@@ -86,22 +86,35 @@ abbrev pub RestPut : StampOrder → (ended : Bool) (input : List ℕ) (run : Run
 RestPut o ended input run text n text′ = (later : List ℕ) → (ended ≡ true → later ≡ []) → take n text′ ≡ textOf o run text (restOf run input ++ later)
 
 -- the point of the listing where a run stands
-abbrev pub pointAt : Run → (ended over : Bool) → List ℕ → Point
-pointAt run ended over input = record { rest = restOf run input; accepted = run .accepted; refused = run .refused; ended = ended; over = over }
-
 abbrev pub pointOf : Turn → List ℕ → Point
-pointOf state input = pointAt (state .run) (state .ended) (state .over) input
+pointOf state input = record {
+  rest = restOf (state .run) input;
+  accepted = state .run .accepted;
+  refused = state .run .refused;
+  ended = state .ended;
+  over = state .over;
+  failed = state .failed;
+}
 
 -- All that was to be written stands in the text, or is still to be put.
 abbrev pub MorePut : StampOrder → (ended : Bool) (input : List ℕ) (run : Run) (text : List ℕ) (put : Put) (text′ : List ℕ) → Type 0
 MorePut o ended input run text put text′ =
     (later : List ℕ) → (ended ≡ true → later ≡ [])
-    → textOf o run text (restOf run input ++ later) ≡ take (put .run .at) text′ ++ toCome o (pointAt (put .run) ended (put .over) input) later
+    → textOf o run text (restOf run input ++ later)
+    ≡ take (put .run .at) text′ ++ cond (put .over) [] (listFrom o (put .run .accepted) (put .run .refused) (linesOf (restOf (put .run) input ++ later)))
 
--- a piece of the input came in behind what was not listed yet, and nothing where the input had ended; all else stayed
+-- Where a run stops before the listing's end, there is little room for text left in n characters, or more of the input is needed: then it has not ended, and what
+-- is not listed yet is no longer than a line.
+pub record Halts (ended : Bool) (n : ℕ) (put : Put) : Type 0 where
+  pub full : put .over ≡ false → (put .next ≡ More → ⊥) → n < put .run .at + (mostText + lastLength)
+  pub more : put .next ≡ More → (ended ≡ false) × (put .over ≡ false) × (put .run .end - put .run .from ≤ longestLine)
+
+-- A piece of the input came in behind what was not listed yet, and nothing where the input had ended. Where more was needed, some did, or the input has ended, or a
+-- read or a write failed. All else stayed.
 pub record Fed (put : Put) (ended : Bool) (input : List ℕ) (state : Turn) (input′ : List ℕ) : Type 0 where
   pub piece : List ℕ
   pub last : ended ≡ true → (piece ≡ []) × (state .ended ≡ true)
+  pub some : put .next ≡ More → state .ended ≡ false → state .failed ≡ false → 0 < length piece
   pub rest : restOf (state .run) input′ ≡ restOf (put .run) input ++ piece
   pub begins : state .run .from ≤ state .run .end
   pub ends : state .run .end ≤ length input

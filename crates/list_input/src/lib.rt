@@ -10,7 +10,7 @@ use listing::Next;
 use streams::turn;
 ghost use Prim.Native.Nat.{_+_, _<_, _≤_};
 ghost use mathlib.Core.Path.{_≡_};
-ghost use mathlib.Core.Bool.{true, false};
+ghost use mathlib.Core.Bool.{true, false, not, _&&_};
 ghost use lib.ListN.{length, take};
 ghost use Rattle.hex_line.specs.Line.{longestLine};
 ghost use Rattle.listing.specs.Lengths.{mostText, lastLength};
@@ -109,9 +109,10 @@ fn list_turns(
     ending(state)
 }
 
-// There is more to do. (So many turns as a 64-bit number holds are never taken.)
+// There is more to do. (As many turns as a 64-bit number counts are never taken.)
 fn goes_on(state: Turn, turns: u64) -> bool
     ensures { λ r. ⌜ (r ≡ true → (0 < turns) × (state .over ≡ false)) ⌝ }
+    ensures { λ r. ⌜ (r ≡ false → state .over ≡ false → state .failed ≡ false → turns ≡ 0) ⌝ }
 {
     if turns == 0 {
         return false;
@@ -123,7 +124,7 @@ fn goes_on(state: Turn, turns: u64) -> bool
 }
 
 fn ending(state: Turn) -> Ended
-    ensures { λ r. ⌜ (r .put ≡ state .run .at) × (r .whole ≡ true → state .over ≡ true) ⌝ }
+    ensures { λ r. ⌜ (r .put ≡ state .run .at) × (r .whole ≡ state .over && not (state .failed)) ⌝ }
 {
     let run = state.run;
     let put = run.at;

@@ -5,7 +5,7 @@ use crate::Run;
 use event::Answer;
 use event::StampOrder;
 use listing::Next;
-ghost use Prim.Native.Nat.{_+_, _-_, _*_, _≤_, _<_};
+ghost use Prim.Native.Nat.{ℕ, _+_, _-_, _*_, _≤_, _<_};
 ghost use mathlib.Core.Bool.{true, false};
 ghost use mathlib.Core.List.{[]};
 ghost use mathlib.Core.Path.{_≡_};
@@ -14,12 +14,12 @@ ghost use Rattle.event.specs.Outcome.{accepted};
 ghost use Rattle.event.specs.Rows.{room};
 ghost use Rattle.event.specs.Writing.{rowsIn};
 ghost use Rattle.hex_line.specs.Text.{Placed};
+ghost use Rattle.listing.specs.declared.Next.the-variants.{Line};
 ghost use Rattle.listing.specs.Input.{nextOf};
 ghost use Rattle.listing.specs.Listing.{mostLines};
 ghost use Rattle.listing.specs.Lengths.{answerLength, rowLength, lastLength, mostRows, mostText};
 ghost use Rattle.listing.specs.Text.{eventText, lastText};
-ghost use Rattle.list_input.specs.Run.{Inside, LineInside, Rooms, restOf, behind, answerTo, rowsTo, LineListed, Kept, ends, RestPut, MorePut};
-ghost use Rattle.listing.specs.declared.Next.the-variants.{More};
+ghost use Rattle.list_input.specs.Run.{Inside, LineInside, Rooms, restOf, behind, answerTo, rowsTo, LineListed, Kept, ends, RestPut, MorePut, Halts};
 
 // The most characters that a line's answer and rows take: those of a refusal, 47, and of 4,096 rows, 36 each.
 const MOST_TEXT: usize = 147503;
@@ -42,6 +42,7 @@ fn list_lines(
     requires { ⌜ Rooms (now words) (now longwords) (now rows) ⌝ }
     ensures { λ r. ⌜ Inside (length (now (input .entry))) (length (now (text .entry))) (r .run) ⌝ }
     ensures { λ r. ⌜ r .next ≡ nextOf (restOf (r .run) (now (input .entry))) ended (r .run .accepted + r .run .refused) ⌝ }
+    ensures { λ r. ⌜ ((k : ℕ) → r .next ≡ Line k → length (now (text .entry)) < r .run .at + mostText) ⌝ }
     ensures { λ r. ⌜ Kept order ended (now (input .entry)) run (now (text .entry)) (r .run) (now (text .exit)) ⌝ }
 {
     let mut listed = run;
@@ -159,18 +160,17 @@ pub(crate) fn list_more(
     requires { ⌜ Inside (length (now input)) (length (now text)) run ⌝ }
     requires { ⌜ Rooms (now words) (now longwords) (now rows) ⌝ }
     ensures { λ r. ⌜ Inside (length (now (input .entry))) (length (now (text .entry))) (r .run) ⌝ }
-    ensures { λ r. ⌜ (r .next ≡ More → (ended ≡ false) × (r .over ≡ false)) ⌝ }
+    ensures { λ r. ⌜ Halts ended (length (now (text .entry))) r ⌝ }
     ensures { λ r. ⌜ MorePut order ended (now (input .entry)) run (now (text .entry)) r (now (text .exit)) ⌝ }
 {
     let listed = list_lines(order, input, ended, words, longwords, rows, text, run);
     let run = listed.run;
     let next = listed.next;
-    if !is_end(next) || text.len() - run.at < MOST_TEXT + LAST {
-        return Put {
-            run,
-            next,
-            over: false,
-        };
+    if !is_end(next) {
+        return unfinished(run, next);
+    }
+    if text.len() - run.at < MOST_TEXT + LAST {
+        return unfinished(run, next);
     }
     let end = put_rest(order, input, ended, next, words, longwords, rows, text, run);
     Put {
@@ -183,6 +183,16 @@ pub(crate) fn list_more(
         },
         next,
         over: true,
+    }
+}
+
+fn unfinished(run: Run, next: Next) -> Put
+    ensures { λ r. ⌜ r ≡ record { run = run; next = next; over = false } ⌝ }
+{
+    Put {
+        run,
+        next,
+        over: false,
     }
 }
 

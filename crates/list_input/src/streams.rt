@@ -17,6 +17,7 @@ ghost use lib.ListN.{length, take, drop};
 ghost use lib.Signed.{ltZ};
 ghost use Rattle.io.specs.Counts.{clamped};
 ghost use Rattle.listing.specs.declared.Next.the-variants.{More};
+ghost use Rattle.hex_line.specs.Line.{longestLine};
 ghost use Rattle.listing.specs.Lengths.{mostText, lastLength};
 ghost use Rattle.list_input.specs.Run.{Inside, Rooms, restOf, pointOf, Fed};
 ghost use Rattle.list_input.specs.Turns.{Listed};
@@ -33,6 +34,7 @@ pub(crate) fn turn(
 ) -> Turn
     requires { ⌜ Inside (length (now input)) (length (now text)) (state .run) × (state .over ≡ false) ⌝ }
     requires { ⌜ Rooms (now words) (now longwords) (now rows) ⌝ }
+    requires { ⌜ (longestLine < length (now input)) × (mostText + lastLength ≤ length (now text)) ⌝ }
     ensures { λ r. ⌜ Inside (length (now (input .entry))) (length (now (text .entry))) (r .run) ⌝ }
     ensures { λ r. ⌜ Listed order (pointOf state (now (input .entry))) (take (r .run .at) (now (text .exit))) (pointOf r (now (input .exit))) ⌝ }
 {
@@ -86,7 +88,7 @@ fn stopped(run: Run, ended: bool, over: bool) -> Turn
 // Goes on with the next line, or reads more of the input.
 fn go_on(input: &mut [u8], put: Put, ended: bool) -> Turn
     requires { ⌜ (put .run .from ≤ put .run .end) × (put .run .end ≤ length (now input)) ⌝ }
-    requires { ⌜ (put .next ≡ More → (ended ≡ false) × (put .over ≡ false)) ⌝ }
+    requires { ⌜ (put .next ≡ More → (ended ≡ false) × (put .over ≡ false) × (put .run .end - put .run .from < length (now input))) ⌝ }
     ensures { λ r. ⌜ Fed put ended (now (input .entry)) r (now (input .exit)) ⌝ }
 {
     let run = put.run;
@@ -102,10 +104,12 @@ fn go_on(input: &mut [u8], put: Put, ended: bool) -> Turn
     refill(input, run)
 }
 
-// Moves the characters that are not listed yet to the front, and reads behind them, so that they stay the first of those to be listed. A failed read ends the run.
+// Moves the characters that are not listed yet to the front, and reads behind them, so that they stay the first of those to be listed. There is room to read into:
+// a read of no characters would be taken for the end of the input. A failed read ends the run.
 fn refill(input: &mut [u8], run: Run) -> Turn
-    requires { ⌜ (run .from ≤ run .end) × (run .end ≤ length (now input)) ⌝ }
+    requires { ⌜ (run .from ≤ run .end) × (run .end ≤ length (now input)) × (run .end - run .from < length (now input)) ⌝ }
     ensures { λ r. ⌜ (r .run .from ≡ 0) × (r .run .end ≤ length (now (input .entry))) ⌝ }
+    ensures { λ r. ⌜ (r .ended ≡ false → run .end - run .from < r .run .end) ⌝ }
     ensures { λ r. ⌜ take (run .end - run .from) (restOf (r .run) (now (input .exit))) ≡ restOf run (now (input .entry)) ⌝ }
     ensures { λ r. ⌜ (r .run .at ≡ run .at) × (r .run .accepted ≡ run .accepted) × (r .run .refused ≡ run .refused) × (r .over ≡ false) ⌝ }
 {
@@ -121,6 +125,7 @@ fn after_read(run: Run, got: isize, part: &[u8]) -> Turn
     requires { ⌜ (run .from ≤ run .end) × (run .end - run .from + length (now part) < 18446744073709551616) ⌝ }
     ensures { λ r. ⌜ r .run ≡ record { from = 0; end = run .end - run .from + clamped got (length (now (part .entry))); at = run .at; accepted = run .accepted; refused = run .refused } ⌝ }
     ensures { λ r. ⌜ r .run .end ≤ run .end - run .from + length (now (part .entry)) ⌝ }
+    ensures { λ r. ⌜ (r .ended ≡ false → run .end - run .from < r .run .end) ⌝ }
     ensures { λ r. ⌜ (r .ended ≡ eqb (clamped got (length (now (part .entry)))) 0) × (r .over ≡ false) × (r .failed ≡ ltZ got (pos 0)) ⌝ }
 {
     let more = io::count(got, part);

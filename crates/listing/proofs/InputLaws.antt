@@ -44,11 +44,11 @@ first-within (c ∷ s) = go (eqb c 10) refl (first-within s)
 abbrev pub Known : (rest : List ℕ) (ended : Bool) (lines : ℕ) → Next → Type 0
 Known rest ended lines (Line k) = (k ≡ firstLine rest) × (0 < length rest) × (lines < mostLines) × (k ≤ longestLine) × (ended ≡ false → k < length rest)
 Known rest ended lines (Long k) = (k ≡ firstLine rest) × (0 < length rest) × (lines < mostLines) × (longestLine < k)
-Known rest ended lines More = ended ≡ false
+Known rest ended lines More = (ended ≡ false) × (length rest ≤ longestLine)
 Known rest ended lines End = (length rest ≡ 0) × (ended ≡ true)
 Known rest ended lines Cut = (0 < length rest) × (mostLines ≤ lines)
 
-positive : (n : ℕ) → (n ≡ 0 → ⊥) → 0 < n
+pub positive : (n : ℕ) → (n ≡ 0 → ⊥) → 0 < n
 positive zero h = absurd (h refl)
 positive (suc n) h = omega arith
 
@@ -62,9 +62,10 @@ known rest ended lines = go (eqb (length rest) 0) (leb mostLines lines) (ltb lon
     go : (none most long whole e : Bool) → eqb (length rest) 0 ≡ none → leb mostLines lines ≡ most → ltb longestLine (firstLine rest) ≡ long → ltb (firstLine rest) (length rest) ≡ whole → ended ≡ e
         → Known rest ended lines (nextOf rest ended lines)
     go true most long whole true a b c d f = rw (a, f) (eqb-true (length rest) 0 a, refl)
-    go true most long whole false a b c d f = rw (a, f) refl
+    go true most long whole false a b c d f = rw (a, f) (refl, omega (arith, eqb-true (length rest) 0 a))
     go false true long whole e a b c d f = rw (a, b) (some a, leb-true mostLines lines b)
     go false false true whole e a b c d f = rw (a, b, c) (refl, some a, leb-false mostLines lines b, ltb-true longestLine (firstLine rest) c)
     go false false false whole true a b c d f = rw (a, b, c, f) (refl, some a, leb-false mostLines lines b, ltb-false longestLine (firstLine rest) c, λ e. impossible cc)
     go false false false true false a b c d f = rw (a, b, c, d, f) (refl, some a, leb-false mostLines lines b, ltb-false longestLine (firstLine rest) c, λ e. ltb-true (firstLine rest) (length rest) d)
-    go false false false false false a b c d f = rw (a, b, c, d, f) refl
+    go false false false false false a b c d f =
+        rw (a, b, c, d, f) (refl, omega (arith, ltb-false longestLine (firstLine rest) c, ltb-false (firstLine rest) (length rest) d))

@@ -9,7 +9,9 @@ use Rattle.compare_events.proofs.main.Statement.{statement}
 use Rattle.compare_events.proofs.main.Tie as tie
 
 compare-input-requires : tie.Need-compare-input-requires
-compare-input-requires c κs = (length-replicate {0} {A = ℕ} mostInput 0, le-of-eq (sym (length-replicate {0} {A = ℕ} mostText 0)))
+compare-input-requires c κs =
+    let d : tie.After-default-order = c .before .before in
+    (d .default-order .ensures, (length-replicate {0} {A = ℕ} mostInput 0, le-of-eq (sym (length-replicate {0} {A = ℕ} mostText 0))))
 
 pub main-spec : {M : Type 1} → statement M
 main-spec =

@@ -18,17 +18,17 @@ Inv-loop order input₀ words₀ longwords₀ rows₀ text₀ state₀ turns₀ 
     × (length rows ≡ length rows₀)
     × (length text ≡ length text₀)
     × Inside (length input₀) (length text₀) (state .run)
-    × Told order (pointOf state input) (take (state .run .at) text)
+    × Told order (pointOf state input) (take (state .run .at) text) turns
 
 abbrev μ-loop : tie.MeasureT-loop
 μ-loop order input₀ words₀ longwords₀ rows₀ text₀ state₀ turns₀ input words longwords rows text state turns = turns
 
--- The places: the entry, the loop, and where a turn was taken.
+-- The places: the entry, where a turn is to be taken, and where it was taken.
 abbrev entry : tie.At-loop Inv-loop μ-loop → tie.Start Inv-loop μ-loop
 entry c = c .before .before .before .before .before .before
 
-abbrev at-loop : tie.After-turn Inv-loop μ-loop → tie.At-loop Inv-loop μ-loop
-at-loop c = c .before .before .before .before .before .before .before .before
+abbrev turn-next : tie.After-turn Inv-loop μ-loop → tie.Then1 Inv-loop μ-loop
+turn-next c = c .before .before .before .before .before .before
 
 abbrev turn-taken : tie.After-slice-known10 Inv-loop μ-loop → tie.After-turn Inv-loop μ-loop
 turn-taken c = c .before .before .before .before .before .before .before .before .before .before
@@ -40,7 +40,7 @@ loop-holds c =
 
 -- there is a turn to take
 taken : (c : tie.Then1 Inv-loop μ-loop) → let l = c .before .before .loop in (0 < l .turns) × (l .state .over ≡ false)
-taken c = c .before .goes-on .ensures (c .if1 .taken)
+taken c = c .before .goes-on .ensures .0 (c .if1 .taken)
 
 turn-requires : tie.Need-turn-requires Inv-loop μ-loop
 turn-requires c κs =
@@ -48,23 +48,32 @@ turn-requires c κs =
     let l : tie.At-loop Inv-loop μ-loop = t .before .before in
     let v = l .loop .inv in
     let p = entry l .pre .0 in
-    ((rw (v .0, v .4) (v .5), taken t .1), (rw (v .1) (p .0), rw (v .2) (p .1), rw (v .3) (p .2)))
+    let b = entry l .pre .1 in
+    ((rw (v .0, v .4) (v .5), taken t .1), ((rw (v .1) (p .0), rw (v .2) (p .1), rw (v .3) (p .2)), (rw (v .0) (b .0), rw (v .4) (b .1))))
 
 loop-less : tie.Need-loop-less Inv-loop μ-loop
-loop-less c = omega (arith, taken (turn-taken c .before .before .before .before .before .before) .0)
+loop-less c = omega (arith, taken (turn-next (turn-taken c)) .0)
 
 loop-again : tie.Need-loop-again Inv-loop μ-loop
 loop-again c =
     let t = turn-taken c in
-    let v = at-loop t .loop .inv in
+    let v = turn-next t .before .before .loop .inv in
     let kept = t .turn .kept .1 in
-    let e = t .turn .ensures in
-    (kept .0 ∙ v .0, kept .1 .0 ∙ v .1, kept .1 .1 .0 ∙ v .2, kept .1 .1 .1 .0 ∙ v .3, kept .1 .1 .1 .1 .0 ∙ v .4, rw (sym (v .0), sym (v .4)) (e .0), told-turn (v .6) (e .1))
+    let e = t .turn .ensures in (
+      kept .0 ∙ v .0,
+      kept .1 .0 ∙ v .1,
+      kept .1 .1 .0 ∙ v .2,
+      kept .1 .1 .1 .0 ∙ v .3,
+      kept .1 .1 .1 .1 .0 ∙ v .4,
+      rw (sym (v .0), sym (v .4)) (e .0),
+      told-turn (v .6) (taken (turn-next t) .0) (e .1),
+    )
 
 returns : tie.Need-returns Inv-loop μ-loop
 returns c =
     let l : tie.At-loop Inv-loop μ-loop = c .before .before .before in
-    rw (c .ending .ensures .0) (told-wrote (c .ending .result .whole) (c .ending .ensures .1) (l .loop .inv .6))
+    let stops = c .before .before .goes-on .ensures .1 (c .before .if1 .left) in
+    rw (c .ending .ensures .0) (told-wrote (c .ending .result .whole) (c .ending .ensures .1) stops (l .loop .inv .6))
 
 pub list-turns-spec : {M : Type 1} → statement M
 list-turns-spec =

@@ -1,6 +1,7 @@
 -- `lines::list_lines` meets its contract. The invariant: all that was to be written is still to be written. Assumes nothing.
 use Prim.Native.Nat.{ℕ, _+_, _-_}
 use mathlib.Core.Path.{_≡_, refl, sym, _∙_}
+use mathlib.Core.Logic.{⊎-elim}
 use mathlib.Core.List.{List}
 use native.Mathlib.Nat.{le-refl}
 use native.Mathlib.Omega.{arith}
@@ -49,14 +50,26 @@ loop-holds c = let s : tie.Start Inv-loop μ-loop = c .before .before .before .b
 next-line-requires : tie.Need-next-line-requires Inv-loop μ-loop
 next-line-requires c κs = let i = c .loop .inv .5 in record { begins = i .begins; ends = i .ends; text = le-refl (c .loop .listed .at); lines = i .lines }
 
+-- where no line comes next
 returns : tie.Need-returns Inv-loop μ-loop
-returns c = (c .before .before .loop .inv .5, (c .before .next-line .ensures, c .before .before .loop .inv .6))
+returns c = (
+  c .before .before .loop .inv .5,
+  (
+    c .before .next-line .ensures,
+    (
+      λ k e. ⊎-elim (λ q. absurd (omega arith)) (⊎-elim (λ q. absurd (omega arith)) (⊎-elim (λ q. absurd (omega arith)) (λ q. absurd (omega arith)))) (rw e at (c .match .keys2)),
+      c .before .before .loop .inv .6,
+    ),
+  ),
+)
 
 returns-2 : tie.Need-returns-2 Inv-loop μ-loop
 returns-2 c =
     let n : tie.After-next Inv-loop μ-loop = c .before .before .before in
-    let l = at-loop n in
-    (l .loop .inv .5, (sym (n .next .given .1) ∙ n .before .before .next-line .ensures, l .loop .inv .6))
+    let l = at-loop n in (
+      l .loop .inv .5,
+      (sym (n .next .given .1) ∙ n .before .before .next-line .ensures, (λ k e. omega (arith, c .if1 .taken, l .loop .inv .3), l .loop .inv .6)),
+    )
 
 -- the run stands within the text as it is now
 module _ (c : tie.After-next Inv-loop μ-loop) where
@@ -108,7 +121,8 @@ loop-again c =
       v .4,
       rw (sym (v .3)) (p .list-line .ensures .0),
       λ later h. v .6 later h
-          ∙ line-kept (entry l .args .order) (entry l .args .ended) (input n) (l .loop .text) (run n) (inside n) (n .next .given .0 .0) (line-known n) (line-inside (line-fits p) .text) (p .list-line .ensures .1) later h,
+          ∙ line-kept (entry l .args .order) (entry l .args .ended) (input n) (l .loop .text) (run n) (inside n) (n .next .given .0 .0) (line-known n)
+          (line-inside (line-fits p) .text) (p .list-line .ensures .1) later h,
     )
 
 pub list-lines-spec : {M : Type 1} → statement M

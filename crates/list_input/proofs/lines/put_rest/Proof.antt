@@ -64,7 +64,8 @@ returns c =
     let s = entry (long-next l) in
     let k = next-known s (long-next l .next .given .1) in (
       omega (arith, p .put-last .ensures .0, long-end l, s .pre .1 .1 .1),
-      rest-long (s .args .order) (s .args .ended) (input s) (s .args .text .now) (run s) (s .pre .0) k (s .pre .1 .1 .1) (l .list-line .ensures .1) (l .list-line .kept .1 .1 .1 .1 .1 .1 .0) (p .put-last .ensures .1),
+      rest-long (s .args .order) (s .args .ended) (input s) (s .args .text .now) (run s) (s .pre .0) k (s .pre .1 .1 .1) (l .list-line .ensures .1)
+          (l .list-line .kept .1 .1 .1 .1 .1 .1 .0) (p .put-last .ensures .1),
     )
 
 returns-2 : tie.Need-returns-2
@@ -82,7 +83,8 @@ returns-3 c =
     let t : tie.After-enum-told2 = p .before .before in
     let s : tie.Start = t .before .before .before .before .before .before .before in (
       omega (arith, p .put-last3 .ensures .0, s .pre .1 .1 .1),
-      rest-ended (s .args .order) (s .args .ended) (input s) (s .args .text .now) (run s) (s .pre .0) (next-known s (t .enum-told2 .given .1)) (omega (arith, s .pre .1 .1 .1)) (p .put-last3 .ensures .1),
+      rest-ended (s .args .order) (s .args .ended) (input s) (s .args .text .now) (run s) (s .pre .0) (next-known s (t .enum-told2 .given .1))
+          (omega (arith, s .pre .1 .1 .1)) (p .put-last3 .ensures .1),
     )
 
 -- a line, or more of the input, does not come next where the listing ends

@@ -3,11 +3,12 @@ use Prim.Native.Nat.{_-_}
 use native.Mathlib.Omega.{arith}
 use mathlib.Core.Path.{refl, sym, _∙_}
 use mathlib.Core.Bool.{false≢true}
+use mathlib.Core.Logic.{⊎-elim}
 use mathlib.Core.List.{[], append-nil}
 use lib.ListN.{drop}
 use borrow.Author.Needs.{needs}
 use Rattle.list_input.specs.Run.{restOf}
-use Rattle.list_input.proofs.Turns.{piece-behind}
+use Rattle.list_input.proofs.Turns.{piece-behind, piece-some}
 use Rattle.list_input.proofs.streams.go_on.Statement.{statement}
 use Rattle.list_input.proofs.streams.go_on.Tie as tie
 
@@ -16,6 +17,7 @@ returns c =
     let s : tie.Start = c .before .before .before in record {
       piece = [];
       last = λ e. (refl, e);
+      some = λ e t g. ⊎-elim (λ q. absurd (omega arith)) (⊎-elim (λ q. absurd (omega arith)) (⊎-elim (λ q. absurd (omega arith)) (λ q. absurd (omega arith)))) (rw e at (c .match .keys2));
       rest = sym (append-nil _);
       begins = s .pre .0 .0;
       ends = s .pre .0 .1;
@@ -24,6 +26,12 @@ returns c =
       refused = refl;
       over = refl;
     }
+
+refill-requires : tie.Need-refill-requires
+refill-requires c κs =
+    let t : tie.After-enum-told = c .before in
+    let s : tie.Start = t .before .before .before .before in
+    (s .pre .0 .0, s .pre .0 .1, s .pre .1 (t .enum-told .given .1) .2)
 
 returns-2 : tie.Need-returns-2
 returns-2 c =
@@ -36,14 +44,15 @@ returns-2 c =
     let rest = restOf (r .refill .result .run) (r .refill .last .0) in record {
       piece = drop k rest;
       last = λ t. absurd (false≢true (sym (m .0) ∙ t));
-      rest = piece-behind k rest (e .1 .0);
+      some = λ _ t _. piece-some (r .refill .result .run) (r .refill .last .0) k (e .0 .0) (omega (arith, e .0 .1, r .refill .kept .0)) (e .1 .0 t);
+      rest = piece-behind k rest (e .1 .1 .0);
       begins = omega (arith, e .0 .0);
       ends = e .0 .1;
-      at = e .1 .1 .0;
-      accepted = e .1 .1 .1;
-      refused = e .1 .1 .2;
-      over = e .1 .1 .3 ∙ sym (m .1);
+      at = e .1 .1 .1 .0;
+      accepted = e .1 .1 .1 .1;
+      refused = e .1 .1 .1 .2;
+      over = e .1 .1 .1 .3 ∙ sym (m .1);
     }
 
 pub go-on-spec : {M : Type 1} → statement M
-go-on-spec = tie.close (tie.spec (λ c. search needs) returns (λ c κs. search needs) (λ c. search needs) returns-2)
+go-on-spec = tie.close (tie.spec (λ c. search needs) returns refill-requires (λ c. search needs) returns-2)

@@ -26,8 +26,11 @@ returns c =
     rw (c .after-read .ensures .0) (
       (refl, omega arith),
       (
-        front-kept (s .args .input .now) front (r .read .last .1 .0) (s .args .run .from) n _ (length front - n) (search needs) (m .move-to-front .ensures) (m .move-to-front .kept .0),
-        (refl, refl, refl, c .after-read .ensures .1 .1 .1),
+        rw (c .after-read .ensures .0) at (c .after-read .ensures .1 .1 .0),
+        (
+          front-kept (s .args .input .now) front (r .read .last .1 .0) (s .args .run .from) n _ (length front - n) (search needs) (m .move-to-front .ensures) (m .move-to-front .kept .0),
+          (refl, refl, refl, c .after-read .ensures .1 .1 .1 .1),
+        ),
       ),
     )
 

@@ -1,6 +1,7 @@
 -- `streams::turn` meets its contract. Assumes nothing.
-use mathlib.Core.Path.{refl, sym}
-use mathlib.Core.Bool.{true}
+use native.Mathlib.Omega.{arith}
+use mathlib.Core.Path.{_≡_, refl, sym}
+use mathlib.Core.Bool.{true, false≢true}
 use mathlib.Core.List.{List, [], append-nil}
 use Prim.Native.Nat.{ℕ}
 use lib.ListN.{length, take}
@@ -21,7 +22,7 @@ abbrev text-put : tie.After-write → tie.After-list-more
 text-put c = c .before .before .before .before .before .before .before .before .before .before .before
 
 list-more-requires : tie.Need-list-more-requires
-list-more-requires c κs = let s = entry c in (rw (c .without-text .ensures) (emptied (s .pre .0 .0)), s .pre .1)
+list-more-requires c κs = let s = entry c in (rw (c .without-text .ensures) (emptied (s .pre .0 .0)), s .pre .1 .0)
 
 write-requires : tie.Need-write-requires
 write-requires c κs =
@@ -38,13 +39,17 @@ module _ (l : tie.After-list-more) where
       (start .args .text .now) (l .list-more .result) (l .list-more .last .1 .1 .1 .1 .1 .1 .0)
   put-anew = rw (l .before .without-text .ensures) at (l .list-more .ensures .1 .1)
 
+  abbrev text-kept : length (l .list-more .last .1 .1 .1 .1 .1 .1 .0) ≡ length (start .args .text .now)
+  text-kept = l .list-more .kept .1 .1 .1 .1 .1 .1 .0
+
   by-fed : {state′ : Turn} {input′ : List ℕ} → Fed (l .list-more .result) (start .args .state .ended) (start .args .input .now) state′ input′
       → Inside (length (start .args .input .now)) (length (start .args .text .now)) (state′ .run)
       × Listed (start .args .order) (pointOf (start .args .state) (start .args .input .now)) (take (state′ .run .at) (l .list-more .last .1 .1 .1 .1 .1 .1 .0)) (pointOf state′ input′)
   by-fed {state′} {input′} f =
       let i = l .list-more .ensures .0 in (
         record { begins = f .begins; ends = f .ends; text = rw (f .at) (i .text); lines = rw (f .accepted, f .refused) (i .lines) },
-        turned (start .args .order) (start .args .state) (l .list-more .result) state′ (start .args .input .now) (start .args .text .now) _ input′ (start .pre .0 .1) put-anew f,
+        turned (start .args .order) (start .args .state) (l .list-more .result) state′ (start .args .input .now) (start .args .text .now) _ input′ f (start .pre .0 .1) put-anew
+            (rw text-kept (l .list-more .ensures .1 .0)) (rw text-kept (start .pre .1 .1 .1)) (rw text-kept (i .text)),
       )
 
 returns : tie.Need-returns
@@ -55,6 +60,7 @@ returns c =
     rw (c .stopped .ensures) (by-fed l {state′ = record { run = p .run; ended = start l .args .state .ended; over = p .over; failed = true }} (record {
       piece = [];
       last = λ e. (refl, e);
+      some = λ _ _ e. absurd (false≢true (sym e));
       rest = sym (append-nil _);
       begins = i .begins;
       ends = i .ends;
@@ -68,7 +74,7 @@ go-on-requires : tie.Need-go-on-requires
 go-on-requires c κs =
     let l = text-put (c .before .before) in
     let i = l .list-more .ensures .0 in
-    ((i .begins, i .ends), l .list-more .ensures .1 .0)
+    ((i .begins, i .ends), λ e. (let m = l .list-more .ensures .1 .0 .more e in (m .0, m .1, omega (arith, m .2, start l .pre .1 .1 .0))))
 
 returns-2 : tie.Need-returns-2
 returns-2 c =
