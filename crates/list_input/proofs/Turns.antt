@@ -13,12 +13,11 @@ use Rattle.event.proofs.Impossible.{impossible}
 use Rattle.listing.specs.declared.Next.{Next}
 use Rattle.listing.specs.declared.Next.the-variants.{Line, Long, More, End, Cut}
 use Rattle.listing.specs.Lengths.{mostText, lastLength}
-use Rattle.listing.specs.Listing.{linesOf, listFrom, listing}
 use Rattle.list_input.specs.declared.Put.{Put}
 use Rattle.list_input.specs.declared.Run.{Run}
 use Rattle.list_input.specs.declared.Turn.{Turn}
 use Rattle.list_input.specs.Run.{restOf, pointOf, MorePut, Fed, Halts}
-use Rattle.list_input.specs.Turns.{Point, start, toCome, endCount, Turned, Listed, Step, Follow, behindAll, cameIn, wasPut, ListsWhole, GoOn, FewTurns, mostTurns, Wrote}
+use Rattle.list_input.specs.Turns.{Point, start, toCome, endCount, Turned, SomeTurn, Step, Follow, behindAll, cameIn, wasPut, ListsWhole, GoOn, FewTurns, mostTurns, Wrote}
 
 -- where the input has ended nothing more comes in
 ended-stays : (o : StampOrder) (p : Point) (steps : List Step) → Follow o p steps → p .ended ≡ true → (cameIn steps ≡ []) × (behindAll p steps .ended ≡ true)
@@ -42,12 +41,11 @@ put-by-turns o p (s ∷ steps) f later l =
     nothing e = let r = ended-stays o (s .after) steps (f .1) e in rw (r .0, l (r .1)) refl
 
 pub lists-whole : ListsWhole
-lists-whole o steps f e =
-    let none : toCome o (behindAll start steps) [] ≡ [] = rw e refl in
+lists-whole o steps f e later l =
+    let none : toCome o (behindAll start steps) later ≡ [] = rw e refl in
     sym (append-nil (wasPut steps))
     ∙ ap (wasPut steps ++_) (sym none)
-    ∙ sym (put-by-turns o start steps f [] (λ _. refl))
-    ∙ ap (listing o) (append-nil (cameIn steps))
+    ∙ sym (put-by-turns o start steps f later l)
 
 -- each turn takes in a character, or puts one, or finds the end of the input
 few : (o : StampOrder) (p : Point) (steps : List Step) → Follow o p steps → GoOn steps
@@ -89,7 +87,7 @@ module _ (o : StampOrder) (s : Step) where
   put-more [] = append-nil (s .put)
   put-more (first ∷ steps) = ap (first .put ++_) (put-more steps) ∙ sym (append-assoc (first .put) (wasPut steps) (s .put))
 
-pub told-turn : {o : StampOrder} {p p′ : Point} {last put : List ℕ} {turns : ℕ} → Told o p last turns → 0 < turns → Listed o p put p′ → Told o p′ put (turns - 1)
+pub told-turn : {o : StampOrder} {p p′ : Point} {last put : List ℕ} {turns : ℕ} → Told o p last turns → 0 < turns → SomeTurn o p put p′ → Told o p′ put (turns - 1)
 told-turn {o} {p} {p′} {last} {put} t h l =
     let s : Step = record { piece = l .0; put = put; after = p′ } in
     record {
@@ -174,5 +172,5 @@ module _ (o : StampOrder) (state : Turn) (put : Put) (state′ : Turn) (input te
   pub turned : state .over ≡ false
       → MorePut o (state .ended) input (record { from = state .run .from; end = state .run .end; at = 0; accepted = state .run .accepted; refused = state .run .refused }) text put text′
       → Halts (state .ended) (length text′) put → mostText + lastLength ≤ length text′ → put .run .at ≤ length text′
-      → Listed o (pointOf state input) (take (state′ .run .at) text′) (pointOf state′ input′)
+      → SomeTurn o (pointOf state input) (take (state′ .run .at) text′) (pointOf state′ input′)
   turned on m h r w = (f .piece, record { last = f .last; puts = by-pieces on m; moves = moved h r w })

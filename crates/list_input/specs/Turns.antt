@@ -1,6 +1,6 @@
 -- A listing turn by turn: what comes in, in whatever pieces, and the text that is put, in whatever pieces.
 -- Assumes nothing.
-use Prim.Native.Nat.{ℕ, suc, _+_, _≤_, _<_}
+use Prim.Native.Nat.{ℕ, _+_, _≤_, _<_}
 use mathlib.Core.Path.{_≡_}
 use mathlib.Core.Bool.{Bool, true, false, cond}
 use mathlib.Core.List.{List, [], _∷_, _++_}
@@ -38,8 +38,8 @@ pub record Turned (o : StampOrder) (p : Point) (piece put : List ℕ) (p′ : Po
   pub moves : p′ .over ≡ false → p′ .failed ≡ false → endCount p < length put + length piece + endCount p′
 
 -- the same with some piece
-abbrev pub Listed : StampOrder → Point → (put : List ℕ) → Point → Type 0
-Listed o p put p′ = (piece : List ℕ) × Turned o p piece put p′
+abbrev pub SomeTurn : StampOrder → Point → (put : List ℕ) → Point → Type 0
+SomeTurn o p put p′ = (piece : List ℕ) × Turned o p piece put p′
 
 -- the piece and the text of a turn, and the point behind it
 pub record Step : Type 0 where
@@ -63,9 +63,16 @@ cameIn = each (λ (s : Step). s .piece)
 abbrev pub wasPut : List Step → List ℕ
 wasPut = each (λ (s : Step). s .put)
 
--- Whatever the input and the pieces that it comes in: the text that turns from the start put, until all is put, is the listing of the input.
+-- a whole input of turns: what came in, and what is left behind it, nothing where the input has ended
+abbrev pub Left : List Step → List ℕ → Type 0
+Left steps later = behindAll start steps .ended ≡ true → later ≡ []
+
+-- Whatever the input and the pieces that it comes in: the text that turns from the start put, until all is put, is the listing of the input, also where a part of
+-- it was not read any more.
 abbrev pub ListsWhole : Type 0
-ListsWhole = (o : StampOrder) (steps : List Step) → Follow o start steps → behindAll start steps .over ≡ true → wasPut steps ≡ listing o (cameIn steps)
+ListsWhole =
+    (o : StampOrder) (steps : List Step) → Follow o start steps → behindAll start steps .over ≡ true
+    → (later : List ℕ) → Left steps later → wasPut steps ≡ listing o (cameIn steps ++ later)
 
 -- turns that go on: after none of them all is put, or a read or a write failed
 abbrev pub GoOn : List Step → Type 0
@@ -80,12 +87,12 @@ FewTurns = (o : StampOrder) (steps : List Step) → Follow o start steps → GoO
 abbrev pub mostTurns : ℕ
 mostTurns = 18446744073709551615
 
--- A listing by turns, and the last text that they put. Where the listing is whole, their text is the listing of what came in. Where it is not, a read or a write
+-- A listing by turns, and the last text that they put. Where the listing is whole, their text is the listing of the input. Where it is not, a read or a write
 -- failed, or the turns were the most that are taken. (No contract of the kit says what was read or written, so which pieces came in is not said.)
 pub record Wrote (o : StampOrder) (whole : Bool) (last : List ℕ) : Type 0 where
   pub steps : List Step
   pub before : List ℕ
   pub follow : Follow o start steps
   pub text : wasPut steps ≡ before ++ last
-  pub listed : whole ≡ true → wasPut steps ≡ listing o (cameIn steps)
+  pub listed : whole ≡ true → (later : List ℕ) → Left steps later → wasPut steps ≡ listing o (cameIn steps ++ later)
   pub stopped : whole ≡ false → behindAll start steps .failed ≡ false → length steps ≡ mostTurns

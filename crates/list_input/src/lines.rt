@@ -4,6 +4,8 @@ use crate::Put;
 use crate::Run;
 use event::Answer;
 use event::StampOrder;
+use listing::LAST;
+use listing::MOST_TEXT;
 use listing::Next;
 ghost use Prim.Native.Nat.{ℕ, _+_, _-_, _*_, _≤_, _<_};
 ghost use mathlib.Core.Bool.{true, false};
@@ -20,12 +22,6 @@ ghost use Rattle.listing.specs.Listing.{mostLines};
 ghost use Rattle.listing.specs.Lengths.{answerLength, rowLength, lastLength, mostRows, mostText};
 ghost use Rattle.listing.specs.Text.{eventText, lastText};
 ghost use Rattle.list_input.specs.Run.{Inside, LineInside, Rooms, restOf, behind, answerTo, rowsTo, LineListed, Kept, ends, RestPut, MorePut, Halts};
-
-// The most characters that a line's answer and rows take: those of a refusal, 47, and of 4,096 rows, 36 each.
-const MOST_TEXT: usize = 147503;
-
-// The characters of the last line.
-const LAST: usize = 37;
 
 // Lists whole lines while there is room for their text, and says what comes next.
 fn list_lines(

@@ -20,7 +20,7 @@ ghost use Rattle.listing.specs.declared.Next.the-variants.{More};
 ghost use Rattle.hex_line.specs.Line.{longestLine};
 ghost use Rattle.listing.specs.Lengths.{mostText, lastLength};
 ghost use Rattle.list_input.specs.Run.{Inside, Rooms, restOf, pointOf, Fed};
-ghost use Rattle.list_input.specs.Turns.{Listed};
+ghost use Rattle.list_input.specs.Turns.{SomeTurn};
 
 // Lists what was read, writes what is listed, and then reads more where it is needed.
 pub(crate) fn turn(
@@ -36,7 +36,7 @@ pub(crate) fn turn(
     requires { ⌜ Rooms (now words) (now longwords) (now rows) ⌝ }
     requires { ⌜ (longestLine < length (now input)) × (mostText + lastLength ≤ length (now text)) ⌝ }
     ensures { λ r. ⌜ Inside (length (now (input .entry))) (length (now (text .entry))) (r .run) ⌝ }
-    ensures { λ r. ⌜ Listed order (pointOf state (now (input .entry))) (take (r .run .at) (now (text .exit))) (pointOf r (now (input .exit))) ⌝ }
+    ensures { λ r. ⌜ SomeTurn order (pointOf state (now (input .entry))) (take (r .run .at) (now (text .exit))) (pointOf r (now (input .exit))) ⌝ }
 {
     let put = list_more(
         order,

@@ -6,6 +6,7 @@ use event::accepts;
 use event::count_or_place;
 use event::refusal_number;
 use event::rows::row_at;
+use hex_line::LONGEST_LINE;
 use hex_line::put_field;
 use hex_line::put_number;
 use hex_line::put_text;
@@ -27,7 +28,10 @@ const REFUSED: usize = 47;
 
 const ROW: usize = 36;
 
-const LAST: usize = 37;
+pub const LAST: usize = 37;
+
+// The most characters that the answer for a line and its rows take: those of a refusal, and of as many rows as a line that is not too long has words.
+pub const MOST_TEXT: usize = REFUSED + ROW * ((LONGEST_LINE - 1) / 5);
 
 // Puts the answer for line `number` and its rows.
 pub fn put_event(number: u64, answer: Answer, rows: &[u32], text: &mut [u8]) -> usize

@@ -1,6 +1,6 @@
 -- `ending` meets its contract. Assumes nothing.
 use mathlib.Core.Path.{_≡_, refl}
-use mathlib.Core.Bool.{Bool, true, false, not, _&&_}
+use mathlib.Core.Bool.{Bool, true, false, _&&_}
 use Rattle.list_input.proofs.ending.Statement.{statement}
 use Rattle.list_input.proofs.ending.Tie as tie
 

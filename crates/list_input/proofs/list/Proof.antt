@@ -1,6 +1,5 @@
 -- `list` meets its contract. Assumes nothing.
 use native.Mathlib.Omega.{arith}
-use borrow.Author.Needs.{needs}
 use Rattle.list_input.proofs.list.Statement.{statement}
 use Rattle.list_input.proofs.list.Tie as tie
 

@@ -5,7 +5,7 @@ use mathlib.Core.Bool.{false}
 use lib.ListN.{length, take}
 use native.Mathlib.Omega.{arith}
 use borrow.Author.Needs.{needs}
-use Rattle.list_input.specs.Run.{Inside, Rooms, pointOf}
+use Rattle.list_input.specs.Run.{Inside, pointOf}
 use Rattle.list_input.proofs.Turns.{Told, told-start, told-turn, told-wrote}
 use Rattle.list_input.proofs.list_turns.Statement.{statement}
 use Rattle.list_input.proofs.list_turns.Tie as tie

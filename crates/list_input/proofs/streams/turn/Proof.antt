@@ -8,7 +8,7 @@ use lib.ListN.{length, take}
 use borrow.Author.Needs.{needs}
 use Rattle.list_input.specs.declared.Turn.{Turn}
 use Rattle.list_input.specs.Run.{Inside, pointOf, MorePut, Fed}
-use Rattle.list_input.specs.Turns.{Listed}
+use Rattle.list_input.specs.Turns.{SomeTurn}
 use Rattle.list_input.proofs.Steps.{emptied}
 use Rattle.list_input.proofs.Turns.{turned}
 use Rattle.list_input.proofs.streams.turn.Statement.{statement}
@@ -44,7 +44,7 @@ module _ (l : tie.After-list-more) where
 
   by-fed : {state′ : Turn} {input′ : List ℕ} → Fed (l .list-more .result) (start .args .state .ended) (start .args .input .now) state′ input′
       → Inside (length (start .args .input .now)) (length (start .args .text .now)) (state′ .run)
-      × Listed (start .args .order) (pointOf (start .args .state) (start .args .input .now)) (take (state′ .run .at) (l .list-more .last .1 .1 .1 .1 .1 .1 .0)) (pointOf state′ input′)
+      × SomeTurn (start .args .order) (pointOf (start .args .state) (start .args .input .now)) (take (state′ .run .at) (l .list-more .last .1 .1 .1 .1 .1 .1 .0)) (pointOf state′ input′)
   by-fed {state′} {input′} f =
       let i = l .list-more .ensures .0 in (
         record { begins = f .begins; ends = f .ends; text = rw (f .at) (i .text); lines = rw (f .accepted, f .refused) (i .lines) },
