@@ -53,10 +53,11 @@ fn compare_input(order: StampOrder, input: &mut [u8], text: &mut [u8])
 
 // Puts what is printed of the input at the front: of what was read, and so of all of it, whatever comes later.
 fn put_gathered(order: StampOrder, input: &[u8], gathered: Gathered, text: &mut [u8]) -> usize
+    requires { ⌜ order ≡ defaultOrder ⌝ }
     requires { ⌜ (length (now input) ≡ mostInput) × (mostText ≤ length (now text)) ⌝ }
     requires { ⌜ Inside (now input) gathered × (goesOn gathered (length (now input)) ≡ false) ⌝ }
     ensures { λ r. ⌜ r ≤ length (now (text .entry)) ⌝ }
-    ensures { λ r. ⌜ PrintPut order (now (input .entry)) gathered r (now (text .exit)) ⌝ }
+    ensures { λ r. ⌜ PrintPut defaultOrder (now (input .entry)) gathered r (now (text .exit)) ⌝ }
 {
     let end = gathered.end;
     put_print(order, &input[..end], text)

@@ -8,7 +8,7 @@ use list_input::MOST_WORDS;
 ghost use mathlib.Core.Path.{_≡_};
 ghost use lib.ListN.{take};
 ghost use Rattle.event.specs.declared.StampOrder.the-variants.{Crossed};
-ghost use Rattle.list_input.specs.Turns.{Wrote};
+ghost use Rattle.list_input.specs.Turns.{ListedByTurns};
 
 // Lists in the crossed stamp order.
 fn list(
@@ -20,7 +20,7 @@ fn list(
     text: &mut [u8; BUFFER],
 ) -> Ended
     requires { ⌜ order ≡ Crossed ⌝ }
-    ensures { λ r. ⌜ Wrote Crossed (r .whole) (take (r .put) (now (text .exit))) ⌝ }
+    ensures { λ r. ⌜ (r .order ≡ Crossed) × ListedByTurns Crossed (r .whole) (take (r .put) (now (text .exit))) ⌝ }
 {
     list_input::list(order, input, words, longwords, rows, text)
 }

@@ -9,7 +9,7 @@ use list_input::MOST_WORDS;
 ghost use mathlib.Core.Path.{_≡_};
 ghost use lib.ListN.{take};
 ghost use Rattle.event.specs.Outcome.{defaultOrder};
-ghost use Rattle.list_input.specs.Turns.{Wrote};
+ghost use Rattle.list_input.specs.Turns.{ListedByTurns};
 
 // Lists in the default stamp order: no order is given to this program.
 fn list(
@@ -21,7 +21,7 @@ fn list(
     text: &mut [u8; BUFFER],
 ) -> Ended
     requires { ⌜ order ≡ defaultOrder ⌝ }
-    ensures { λ r. ⌜ Wrote defaultOrder (r .whole) (take (r .put) (now (text .exit))) ⌝ }
+    ensures { λ r. ⌜ (r .order ≡ defaultOrder) × ListedByTurns defaultOrder (r .whole) (take (r .put) (now (text .exit))) ⌝ }
 {
     list_input::list(order, input, words, longwords, rows, text)
 }

@@ -12,20 +12,21 @@ use Rattle.event.specs.declared.StampOrder.{StampOrder}
 use Rattle.event.proofs.Impossible.{impossible}
 use Rattle.listing.specs.declared.Next.{Next}
 use Rattle.listing.specs.declared.Next.the-variants.{Line, Long, More, End, Cut}
+use Rattle.listing.specs.Input.{nextOf}
 use Rattle.listing.specs.Lengths.{mostText, lastLength}
 use Rattle.list_input.specs.declared.Put.{Put}
 use Rattle.list_input.specs.declared.Run.{Run}
 use Rattle.list_input.specs.declared.Turn.{Turn}
 use Rattle.list_input.specs.Run.{restOf, pointOf, MorePut, Fed, Halts}
-use Rattle.list_input.specs.Turns.{Point, start, toCome, endCount, Turned, SomeTurn, Step, Follow, behindAll, cameIn, wasPut, ListsWhole, GoOn, FewTurns, mostTurns, Wrote}
+use Rattle.list_input.specs.Turns.{Point, start, toCome, endCount, Turned, SomeTurn, Step, Follow, behindAll, lastPut, cameIn, wasPut, ListsWhole, FewTurns, mostTurns, ListedByTurns, NotWhole}
 
 -- where the input has ended nothing more comes in
 ended-stays : (o : StampOrder) (p : Point) (steps : List Step) → Follow o p steps → p .ended ≡ true → (cameIn steps ≡ []) × (behindAll p steps .ended ≡ true)
 ended-stays o p [] f e = (refl, e)
 ended-stays o p (s ∷ steps) f e =
     let l = f .0 .last e in
-    let r = ended-stays o (s .after) steps (f .1) (l .1) in
-    (rw (l .0, r .0) refl, r .1)
+    let r = ended-stays o (s .after) steps (f .1) l in
+    (rw (f .0 .found l, r .0) refl, r .1)
 
 -- what was to be put at a point is what turns put from there, and what is still to be put behind them
 put-by-turns : (o : StampOrder) (p : Point) (steps : List Step) → Follow o p steps → (later : List ℕ) → (behindAll p steps .ended ≡ true → later ≡ [])
@@ -47,31 +48,40 @@ lists-whole o steps f e later l =
     ∙ ap (wasPut steps ++_) (sym none)
     ∙ sym (put-by-turns o start steps f later l)
 
--- each turn takes in a character, or puts one, or finds the end of the input
-few : (o : StampOrder) (p : Point) (steps : List Step) → Follow o p steps → GoOn steps
-    → length steps + endCount p ≤ length (cameIn steps) + length (wasPut steps) + endCount (behindAll p steps)
-few o p [] f g = omega arith
-few o p (s ∷ steps) f g =
-    omega (arith, few o (s .after) steps (f .1) (g .2), f .0 .moves (g .0) (g .1), length-append (s .piece) (cameIn steps), length-append (s .put) (wasPut steps))
+once : (b : Bool) → cond b 1 0 ≤ 1
+once true = omega arith
+once false = omega arith
+
+-- each turn but the last takes in a character, or puts one, or finds the end of the input
+few : (o : StampOrder) (p : Point) (steps : List Step) → Follow o p steps
+    → length steps + endCount p ≤ length (cameIn steps) + length (wasPut steps) + 2
+few o p [] f = omega (arith, once (p .ended))
+few o p (s ∷ []) f = omega (arith, once (p .ended))
+few o p (s ∷ (next ∷ steps)) f =
+    omega (
+      arith,
+      few o (s .after) (next ∷ steps) (f .1),
+      f .0 .moves (f .1 .0 .taken .0) (f .1 .0 .taken .1),
+      length-append (s .piece) (cameIn (next ∷ steps)),
+      length-append (s .put) (wasPut (next ∷ steps)),
+    )
 
 pub few-turns : FewTurns
-few-turns o steps f g = omega (arith, few o start steps f g, once (behindAll start steps .ended))
-  where
-    once : (b : Bool) → cond b 1 0 ≤ 1
-    once true = omega arith
-    once false = omega arith
+few-turns o steps f = omega (arith, few o start steps f)
+
+pub not-whole : NotWhole
+not-whole o last w f = omega (arith, few-turns o (w .steps) (w .follow), w .stopped refl f)
 
 -- a listing so far: turns from the start to a point, the text of the last of them, and how many more may be taken
 pub record Told (o : StampOrder) (p : Point) (last : List ℕ) (turns : ℕ) : Type 0 where
   pub steps : List Step
-  pub before : List ℕ
   pub follow : Follow o start steps
   pub at : behindAll start steps ≡ p
-  pub text : wasPut steps ≡ before ++ last
+  pub text : lastPut [] steps ≡ last
   pub left : turns + length steps ≡ mostTurns
 
 pub told-start : (o : StampOrder) → Told o start [] mostTurns
-told-start o = record { steps = []; before = []; follow = tt; at = refl; text = refl; left = omega arith }
+told-start o = record { steps = []; follow = tt; at = refl; text = refl; left = omega arith }
 
 -- one turn more
 module _ (o : StampOrder) (s : Step) where
@@ -83,30 +93,29 @@ module _ (o : StampOrder) (s : Step) where
   behind-more p [] = refl
   behind-more p (first ∷ steps) = behind-more (first .after) steps
 
-  put-more : (steps : List Step) → wasPut (steps ++ (s ∷ [])) ≡ wasPut steps ++ s .put
-  put-more [] = append-nil (s .put)
-  put-more (first ∷ steps) = ap (first .put ++_) (put-more steps) ∙ sym (append-assoc (first .put) (wasPut steps) (s .put))
+  put-more : (t : List ℕ) (steps : List Step) → lastPut t (steps ++ (s ∷ [])) ≡ s .put
+  put-more t [] = refl
+  put-more t (first ∷ steps) = put-more (first .put) steps
 
 pub told-turn : {o : StampOrder} {p p′ : Point} {last put : List ℕ} {turns : ℕ} → Told o p last turns → 0 < turns → SomeTurn o p put p′ → Told o p′ put (turns - 1)
 told-turn {o} {p} {p′} {last} {put} t h l =
     let s : Step = record { piece = l .0; put = put; after = p′ } in
     record {
       steps = t .steps ++ (s ∷ []);
-      before = wasPut (t .steps);
       follow = follow-more o s start (t .steps) (t .follow) (rw (t .at) (l .1));
       at = behind-more o s start (t .steps);
-      text = put-more o s (t .steps);
+      text = put-more o s [] (t .steps);
       left = omega (arith, h, t .left, length-append (t .steps) (s ∷ []));
     }
 
 -- where no more turns are taken
-pub told-wrote : {o : StampOrder} {p : Point} {last : List ℕ} {turns : ℕ} (whole : Bool) → whole ≡ p .over && not (p .failed)
-    → (p .over ≡ false → p .failed ≡ false → turns ≡ 0) → Told o p last turns → Wrote o whole last
-told-wrote {o} {p} {last} {turns} whole e z t = record {
+pub told-listed : {o : StampOrder} {p : Point} {last : List ℕ} {turns : ℕ} (whole : Bool) → whole ≡ p .over && not (p .failed)
+    → (p .over ≡ false → p .failed ≡ false → turns ≡ 0) → Told o p last turns → ListedByTurns o whole last
+told-listed {o} {p} {last} {turns} whole e z t = record {
   steps = t .steps;
-  before = t .before;
   follow = t .follow;
   text = t .text;
+  ends = rw (t .at) e;
   listed = λ w. lists-whole o (t .steps) (t .follow) (rw (t .at) (over (p .over) refl w));
   stopped = λ w h. (let f : p .failed ≡ false = rw (t .at) at h in omega (arith, t .left, z (on (p .over) refl w f) f));
 }
@@ -127,6 +136,14 @@ piece-behind k whole e = sym (take-append-drop k whole) ∙ ap (_++ drop k whole
 pub piece-some : (run : Run) (input : List ℕ) (k : ℕ) → run .from ≡ 0 → run .end ≤ length input → k < run .end → 0 < length (drop k (restOf run input))
 piece-some run input k e h l = simp (length-drop, length-take) (omega (arith, e, h, l))
 
+-- and where none were read none do
+pub piece-none : (run : Run) (input : List ℕ) (k : ℕ) → run .from ≡ 0 → run .end ≡ k → drop k (restOf run input) ≡ []
+piece-none run input k e h = empty (drop k (restOf run input)) (simp (length-drop, length-take) (omega (arith, e, h)))
+  where
+    empty : (l : List ℕ) → length l ≡ 0 → l ≡ []
+    empty [] q = refl
+    empty (x ∷ l) q = absurd (omega (arith, q))
+
 -- more of the input is needed, or it is not
 needed : (n : Next) → (n ≡ More) ⊎ (n ≡ More → ⊥)
 needed (Line k) = inr (λ e. impossible cc)
@@ -142,7 +159,7 @@ module _ (o : StampOrder) (state : Turn) (put : Put) (state′ : Turn) (input te
       → (later : List ℕ) → (state′ .ended ≡ true → later ≡ [])
       → toCome o (pointOf state input) (f .piece ++ later) ≡ take (state′ .run .at) text′ ++ toCome o (pointOf state′ input′) later
   by-pieces on m later l =
-      let nothing : state .ended ≡ true → f .piece ++ later ≡ [] = λ e. (let n = f .last e in rw (n .0, l (n .1)) refl) in
+      let nothing : state .ended ≡ true → f .piece ++ later ≡ [] = λ e. (let n = f .last e in rw (f .found n, l n) refl) in
       rw (on, f .at, f .accepted, f .refused, f .over, f .rest, append-assoc (restOf (put .run) input) (f .piece) later) (m (f .piece ++ later) nothing)
 
   moved : Halts (state .ended) (length text′) put → mostText + lastLength ≤ length text′ → put .run .at ≤ length text′ → state′ .over ≡ false → state′ .failed ≡ false
@@ -166,11 +183,24 @@ module _ (o : StampOrder) (state : Turn) (put : Put) (state′ : Turn) (input te
           some = omega (arith, h .full (sym (f .over) ∙ on) e, r)
 
           go : (b : Bool) → state .ended ≡ b → cond (state .ended) 1 0 < length (take (state′ .run .at) text′) + length (f .piece) + cond (state′ .ended) 1 0
-          go true t = rw (t, f .last t .1) (omega (arith, at, some))
+          go true t = rw (t, f .last t) (omega (arith, at, some))
           go false t = rw t (omega (arith, at, some))
 
-  pub turned : state .over ≡ false
-      → MorePut o (state .ended) input (record { from = state .run .from; end = state .run .end; at = 0; accepted = state .run .accepted; refused = state .run .refused }) text put text′
+  abbrev NextTold : Type 0
+  NextTold = put .next ≡ nextOf (restOf (put .run) input) (state .ended) (put .run .accepted + put .run .refused)
+
+  read : Halts (state .ended) (length text′) put → NextTold → endCount (pointOf state input) < length (f .piece) + endCount (pointOf state′ input′)
+      → (rest : List ℕ) × (pointOf state′ input′ .rest ≡ rest ++ f .piece) × (nextOf rest false (state′ .run .accepted + state′ .run .refused) ≡ More)
+  read h nx lt = ⊎-elim more none (needed (put .next))
+    where
+      more : put .next ≡ More → (rest : List ℕ) × (pointOf state′ input′ .rest ≡ rest ++ f .piece) × (nextOf rest false (state′ .run .accepted + state′ .run .refused) ≡ More)
+      more e = (restOf (put .run) input, f .rest, rw (f .accepted, f .refused) (rw (h .more e .0) at (sym nx ∙ e)))
+
+      none : (put .next ≡ More → ⊥) → (rest : List ℕ) × (pointOf state′ input′ .rest ≡ rest ++ f .piece) × (nextOf rest false (state′ .run .accepted + state′ .run .refused) ≡ More)
+      none n = let s = f .stays n in absurd (omega (arith, rw (s .0, s .1) at lt))
+
+  pub turned : (state .over ≡ false) × (state .failed ≡ false)
+      → MorePut o (state .ended) input (record { from = state .run .from; end = state .run .end; at = 0; accepted = state .run .accepted; refused = state .run .refused }) text put text′ → NextTold
       → Halts (state .ended) (length text′) put → mostText + lastLength ≤ length text′ → put .run .at ≤ length text′
       → SomeTurn o (pointOf state input) (take (state′ .run .at) text′) (pointOf state′ input′)
-  turned on m h r w = (f .piece, record { last = f .last; puts = by-pieces on m; moves = moved h r w })
+  turned on m nx h r w = (f .piece, record { taken = on; last = f .last; found = f .found; reads = read h nx; puts = by-pieces (on .0) m; moves = moved h r w })

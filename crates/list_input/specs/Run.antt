@@ -110,10 +110,12 @@ pub record Halts (ended : Bool) (n : ℕ) (put : Put) : Type 0 where
   pub more : put .next ≡ More → (ended ≡ false) × (put .over ≡ false) × (put .run .end - put .run .from ≤ longestLine)
 
 -- A piece of the input came in behind what was not listed yet, and nothing where the input had ended. Where more was needed, some did, or the input has ended, or a
--- read or a write failed. All else stayed.
+-- read failed; where it was not, nothing was read. All else stayed.
 pub record Fed (put : Put) (ended : Bool) (input : List ℕ) (state : Turn) (input′ : List ℕ) : Type 0 where
   pub piece : List ℕ
-  pub last : ended ≡ true → (piece ≡ []) × (state .ended ≡ true)
+  pub found : state .ended ≡ true → piece ≡ []
+  pub stays : (put .next ≡ More → ⊥) → (piece ≡ []) × (state .ended ≡ ended)
+  pub last : ended ≡ true → state .ended ≡ true
   pub some : put .next ≡ More → state .ended ≡ false → state .failed ≡ false → 0 < length piece
   pub rest : restOf (state .run) input′ ≡ restOf (put .run) input ++ piece
   pub begins : state .run .from ≤ state .run .end

@@ -2,15 +2,17 @@
 -- Assumes nothing.
 use Prim.Native.Nat.{ℕ, _+_, _≤_, _<_}
 use mathlib.Core.Path.{_≡_}
-use mathlib.Core.Bool.{Bool, true, false, cond}
+use mathlib.Core.Bool.{Bool, true, false, cond, not, _&&_}
 use mathlib.Core.List.{List, [], _∷_, _++_}
 use lib.ListN.{length}
 use Rattle.event.specs.declared.StampOrder.{StampOrder}
 use Rattle.event.specs.Parser.{each}
+use Rattle.listing.specs.Input.{nextOf}
+use Rattle.listing.specs.declared.Next.the-variants.{More}
 use Rattle.listing.specs.Listing.{linesOf, listFrom, listing}
 
--- A point of a listing: the characters that came in and are not listed yet, the lines that were accepted and refused, whether the input has ended, whether all is
--- put, and whether a read or a write failed.
+-- A point of a listing: the characters that came in and are not listed yet, the lines that were accepted and refused, whether the input has ended (a failed read
+-- ends it too), whether all is put, and whether a read or a write failed.
 pub record Point : Type 0 where
   pub rest : List ℕ
   pub accepted : ℕ
@@ -30,10 +32,16 @@ toCome o p later = cond (p .over) [] (listFrom o (p .accepted) (p .refused) (lin
 abbrev pub endCount : Point → ℕ
 endCount p = cond (p .ended) 1 0
 
--- A turn: a piece comes in and a text is put, to another point. Nothing comes in where the input has ended. Whatever comes later, what was to be put is that text
--- and what is still to be put. A turn that did not fail puts all, or some text, or takes in a piece, or finds that the input has ended.
+-- A turn, of a listing that is not over and at which nothing failed: a piece comes in and a text is put, to another point.
+--   last, found  the end of the input stays, and nothing comes in with it
+--   reads        a piece comes in, or the end is found, only where more of the input is needed: a line is listed as soon as it was read
+--   puts         whatever comes later, what was to be put is this text and what is still to be put
+--   moves        where nothing failed, all is put, or some text, or a piece came in, or the end of the input was found
 pub record Turned (o : StampOrder) (p : Point) (piece put : List ℕ) (p′ : Point) : Type 0 where
-  pub last : p .ended ≡ true → (piece ≡ []) × (p′ .ended ≡ true)
+  pub taken : (p .over ≡ false) × (p .failed ≡ false)
+  pub last : p .ended ≡ true → p′ .ended ≡ true
+  pub found : p′ .ended ≡ true → piece ≡ []
+  pub reads : endCount p < length piece + endCount p′ → (rest : List ℕ) × (p′ .rest ≡ rest ++ piece) × (nextOf rest false (p′ .accepted + p′ .refused) ≡ More)
   pub puts : (later : List ℕ) → (p′ .ended ≡ true → later ≡ []) → toCome o p (piece ++ later) ≡ put ++ toCome o p′ later
   pub moves : p′ .over ≡ false → p′ .failed ≡ false → endCount p < length put + length piece + endCount p′
 
@@ -56,6 +64,11 @@ abbrev pub behindAll : Point → List Step → Point
 behindAll p [] = p
 behindAll p (s ∷ steps) = behindAll (s .after) steps
 
+-- the text that the last of them put
+abbrev pub lastPut : List ℕ → List Step → List ℕ
+lastPut t [] = t
+lastPut t (s ∷ steps) = lastPut (s .put) steps
+
 -- what came in, and the text that was put
 abbrev pub cameIn : List Step → List ℕ
 cameIn = each (λ (s : Step). s .piece)
@@ -63,36 +76,37 @@ cameIn = each (λ (s : Step). s .piece)
 abbrev pub wasPut : List Step → List ℕ
 wasPut = each (λ (s : Step). s .put)
 
--- a whole input of turns: what came in, and what is left behind it, nothing where the input has ended
-abbrev pub Left : List Step → List ℕ → Type 0
-Left steps later = behindAll start steps .ended ≡ true → later ≡ []
+-- what may follow what came in: nothing where the input has ended
+abbrev pub MayFollow : List Step → List ℕ → Type 0
+MayFollow steps later = behindAll start steps .ended ≡ true → later ≡ []
 
 -- Whatever the input and the pieces that it comes in: the text that turns from the start put, until all is put, is the listing of the input, also where a part of
 -- it was not read any more.
 abbrev pub ListsWhole : Type 0
 ListsWhole =
     (o : StampOrder) (steps : List Step) → Follow o start steps → behindAll start steps .over ≡ true
-    → (later : List ℕ) → Left steps later → wasPut steps ≡ listing o (cameIn steps ++ later)
+    → (later : List ℕ) → MayFollow steps later → wasPut steps ≡ listing o (cameIn steps ++ later)
 
--- turns that go on: after none of them all is put, or a read or a write failed
-abbrev pub GoOn : List Step → Type 0
-GoOn [] = Unit {0}
-GoOn (s ∷ steps) = (s .after .over ≡ false) × (s .after .failed ≡ false) × GoOn steps
-
--- They are no more than the characters that came in and were put, and one. So turns come to their end, where the input does.
+-- Turns are no more than the characters that came in and were put, and two. (What they put is a beginning of the listing, so they end where the input does.)
 abbrev pub FewTurns : Type 0
-FewTurns = (o : StampOrder) (steps : List Step) → Follow o start steps → GoOn steps → length steps ≤ length (cameIn steps) + length (wasPut steps) + 1
+FewTurns = (o : StampOrder) (steps : List Step) → Follow o start steps → length steps ≤ length (cameIn steps) + length (wasPut steps) + 2
 
 -- the most turns that are taken
 abbrev pub mostTurns : ℕ
 mostTurns = 18446744073709551615
 
--- A listing by turns, and the last text that they put. Where the listing is whole, their text is the listing of the input. Where it is not, a read or a write
--- failed, or the turns were the most that are taken. (No contract of the kit says what was read or written, so which pieces came in is not said.)
-pub record Wrote (o : StampOrder) (whole : Bool) (last : List ℕ) : Type 0 where
+-- A listing by turns, and the last text that they put. It is whole where all is put and nothing failed; then their text is the listing of the input. Where it is
+-- not, a read or a write failed, or the turns were the most that are taken. No contract of the kit says what was read or written: that these are the turns that
+-- were taken is said by the contract of each, of `turn`, and not here.
+pub record ListedByTurns (o : StampOrder) (whole : Bool) (last : List ℕ) : Type 0 where
   pub steps : List Step
-  pub before : List ℕ
   pub follow : Follow o start steps
-  pub text : wasPut steps ≡ before ++ last
-  pub listed : whole ≡ true → (later : List ℕ) → Left steps later → wasPut steps ≡ listing o (cameIn steps ++ later)
+  pub text : lastPut [] steps ≡ last
+  pub ends : whole ≡ behindAll start steps .over && not (behindAll start steps .failed)
+  pub listed : whole ≡ true → (later : List ℕ) → MayFollow steps later → wasPut steps ≡ listing o (cameIn steps ++ later)
   pub stopped : whole ≡ false → behindAll start steps .failed ≡ false → length steps ≡ mostTurns
+
+-- A listing that is not whole, though nothing failed, took in and put some 2^64 characters.
+abbrev pub NotWhole : Type 0
+NotWhole = (o : StampOrder) (last : List ℕ) (w : ListedByTurns o false last) → behindAll start (w .steps) .failed ≡ false
+    → 18446744073709551613 ≤ length (cameIn (w .steps)) + length (wasPut (w .steps))

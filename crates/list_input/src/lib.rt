@@ -1,5 +1,5 @@
 // What the line programs share: lists the hexadecimal lines of standard input (document 01, 'The hexadecimal lines') on standard output, in the stamp order that a
-// program names. A line is listed as soon as it was read, and what is listed is written before more is waited for. A write that fails ends the listing at once. A
+// program gives. A line is listed as soon as it was read, and what is listed is written before more is waited for. A write that fails ends the listing at once. A
 // read that fails ends it without a last line.
 mod lines;
 mod streams;
@@ -15,7 +15,7 @@ ghost use lib.ListN.{length, take};
 ghost use Rattle.hex_line.specs.Line.{longestLine};
 ghost use Rattle.listing.specs.Lengths.{mostText, lastLength};
 ghost use Rattle.list_input.specs.Run.{Rooms};
-ghost use Rattle.list_input.specs.Turns.{Wrote};
+ghost use Rattle.list_input.specs.Turns.{ListedByTurns};
 
 // The characters of the input, and of the text, that are held at a time.
 pub const BUFFER: usize = 262144;
@@ -57,10 +57,12 @@ struct Turn {
     failed: bool,
 }
 
-// How a listing ended: so many characters of the text were put last, and whether all of the listing was put and written. It was not where a read or a write failed.
+// How a listing ended: its stamp order, how many characters of the text were put last, and whether all of the listing was put and written; it was not where a read
+// or a write failed. Its fields are private, so that no other crate can make one: whoever has it has called `list`.
 pub struct Ended {
-    pub put: usize,
-    pub whole: bool,
+    order: StampOrder,
+    put: usize,
+    whole: bool,
 }
 
 // Lists standard input. The buffers' contents before the call do not matter.
@@ -72,7 +74,7 @@ pub fn list(
     rows: &mut [u32; MOST_ELEMENTS],
     text: &mut [u8; BUFFER],
 ) -> Ended
-    ensures { λ r. ⌜ Wrote order (r .whole) (take (r .put) (now (text .exit))) ⌝ }
+    ensures { λ r. ⌜ (r .order ≡ order) × ListedByTurns order (r .whole) (take (r .put) (now (text .exit))) ⌝ }
 {
     list_turns(order, input, words, longwords, rows, text)
 }
@@ -87,7 +89,7 @@ fn list_turns(
 ) -> Ended
     requires { ⌜ Rooms (now words) (now longwords) (now rows) ⌝ }
     requires { ⌜ (longestLine < length (now input)) × (mostText + lastLength ≤ length (now text)) ⌝ }
-    ensures { λ r. ⌜ Wrote order (r .whole) (take (r .put) (now (text .exit))) ⌝ }
+    ensures { λ r. ⌜ (r .order ≡ order) × ListedByTurns order (r .whole) (take (r .put) (now (text .exit))) ⌝ }
 {
     let mut state = Turn {
         run: Run {
@@ -106,12 +108,12 @@ fn list_turns(
         turns -= 1;
         state = turn(order, input, words, longwords, rows, text, state);
     }
-    ending(state)
+    ending(order, state)
 }
 
 // There is more to do. (As many turns as a 64-bit number counts are never taken.)
 fn goes_on(state: Turn, turns: u64) -> bool
-    ensures { λ r. ⌜ (r ≡ true → (0 < turns) × (state .over ≡ false)) ⌝ }
+    ensures { λ r. ⌜ (r ≡ true → (0 < turns) × (state .over ≡ false) × (state .failed ≡ false)) ⌝ }
     ensures { λ r. ⌜ (r ≡ false → state .over ≡ false → state .failed ≡ false → turns ≡ 0) ⌝ }
 {
     if turns == 0 {
@@ -123,15 +125,20 @@ fn goes_on(state: Turn, turns: u64) -> bool
     !state.failed
 }
 
-fn ending(state: Turn) -> Ended
-    ensures { λ r. ⌜ (r .put ≡ state .run .at) × (r .whole ≡ state .over && not (state .failed)) ⌝ }
+fn ending(order: StampOrder, state: Turn) -> Ended
+    ensures { λ r. ⌜ (r .order ≡ order) × (r .put ≡ state .run .at) × (r .whole ≡ state .over && not (state .failed)) ⌝ }
 {
     let run = state.run;
     let put = run.at;
     if state.failed {
-        return Ended { put, whole: false };
+        return Ended {
+            order,
+            put,
+            whole: false,
+        };
     }
     Ended {
+        order,
         put,
         whole: state.over,
     }

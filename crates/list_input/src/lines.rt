@@ -4,7 +4,7 @@ use crate::Put;
 use crate::Run;
 use event::Answer;
 use event::StampOrder;
-use listing::LAST;
+use listing::LAST_LENGTH;
 use listing::MOST_TEXT;
 use listing::Next;
 ghost use Prim.Native.Nat.{ℕ, _+_, _-_, _*_, _≤_, _<_};
@@ -158,6 +158,7 @@ pub(crate) fn list_more(
     ensures { λ r. ⌜ Inside (length (now (input .entry))) (length (now (text .entry))) (r .run) ⌝ }
     ensures { λ r. ⌜ Halts ended (length (now (text .entry))) r ⌝ }
     ensures { λ r. ⌜ MorePut order ended (now (input .entry)) run (now (text .entry)) r (now (text .exit)) ⌝ }
+    ensures { λ r. ⌜ r .next ≡ nextOf (restOf (r .run) (now (input .entry))) ended (r .run .accepted + r .run .refused) ⌝ }
 {
     let listed = list_lines(order, input, ended, words, longwords, rows, text, run);
     let run = listed.run;
@@ -165,7 +166,7 @@ pub(crate) fn list_more(
     if !is_end(next) {
         return unfinished(run, next);
     }
-    if text.len() - run.at < MOST_TEXT + LAST {
+    if text.len() - run.at < MOST_TEXT + LAST_LENGTH {
         return unfinished(run, next);
     }
     let end = put_rest(order, input, ended, next, words, longwords, rows, text, run);

@@ -32,7 +32,7 @@ pub(crate) fn turn(
     text: &mut [u8],
     state: Turn,
 ) -> Turn
-    requires { ⌜ Inside (length (now input)) (length (now text)) (state .run) × (state .over ≡ false) ⌝ }
+    requires { ⌜ Inside (length (now input)) (length (now text)) (state .run) × (state .over ≡ false) × (state .failed ≡ false) ⌝ }
     requires { ⌜ Rooms (now words) (now longwords) (now rows) ⌝ }
     requires { ⌜ (longestLine < length (now input)) × (mostText + lastLength ≤ length (now text)) ⌝ }
     ensures { λ r. ⌜ Inside (length (now (input .entry))) (length (now (text .entry))) (r .run) ⌝ }
@@ -49,10 +49,11 @@ pub(crate) fn turn(
         without_text(state.run),
     );
     let run = put.run;
-    if !write(text, run.at) {
-        return stopped(run, state.ended, put.over);
+    let written = write(text, run.at);
+    if !written {
+        return stopped(run, state.ended, put.over, written);
     }
-    go_on(input, put, state.ended)
+    go_on(input, put, state.ended, written)
 }
 
 // The run before its next text is put.
@@ -74,7 +75,8 @@ fn write(text: &[u8], at: usize) -> bool
     io::write_all(STDOUT_FILENO, &text[..at])
 }
 
-fn stopped(run: Run, ended: bool, over: bool) -> Turn
+fn stopped(run: Run, ended: bool, over: bool, written: bool) -> Turn
+    requires { ⌜ written ≡ false ⌝ }
     ensures { λ r. ⌜ r ≡ record { run = run; ended = ended; over = over; failed = true } ⌝ }
 {
     Turn {
@@ -85,11 +87,13 @@ fn stopped(run: Run, ended: bool, over: bool) -> Turn
     }
 }
 
-// Goes on with the next line, or reads more of the input.
-fn go_on(input: &mut [u8], put: Put, ended: bool) -> Turn
+// Goes on with the next line, reads more of the input, or ends where all is put. What was put is written.
+fn go_on(input: &mut [u8], put: Put, ended: bool, written: bool) -> Turn
+    requires { ⌜ written ≡ true ⌝ }
     requires { ⌜ (put .run .from ≤ put .run .end) × (put .run .end ≤ length (now input)) ⌝ }
     requires { ⌜ (put .next ≡ More → (ended ≡ false) × (put .over ≡ false) × (put .run .end - put .run .from < length (now input))) ⌝ }
     ensures { λ r. ⌜ Fed put ended (now (input .entry)) r (now (input .exit)) ⌝ }
+    ensures { λ r. ⌜ ((put .next ≡ More → ⊥) → r .failed ≡ false) ⌝ }
 {
     let run = put.run;
     let next = put.next;
@@ -109,7 +113,7 @@ fn go_on(input: &mut [u8], put: Put, ended: bool) -> Turn
 fn refill(input: &mut [u8], run: Run) -> Turn
     requires { ⌜ (run .from ≤ run .end) × (run .end ≤ length (now input)) × (run .end - run .from < length (now input)) ⌝ }
     ensures { λ r. ⌜ (r .run .from ≡ 0) × (r .run .end ≤ length (now (input .entry))) ⌝ }
-    ensures { λ r. ⌜ (r .ended ≡ false → run .end - run .from < r .run .end) ⌝ }
+    ensures { λ r. ⌜ (r .ended ≡ false → run .end - run .from < r .run .end) × (r .ended ≡ true → r .run .end ≡ run .end - run .from) ⌝ }
     ensures { λ r. ⌜ take (run .end - run .from) (restOf (r .run) (now (input .exit))) ≡ restOf run (now (input .entry)) ⌝ }
     ensures { λ r. ⌜ (r .run .at ≡ run .at) × (r .run .accepted ≡ run .accepted) × (r .run .refused ≡ run .refused) × (r .over ≡ false) ⌝ }
 {
@@ -125,7 +129,7 @@ fn after_read(run: Run, got: isize, part: &[u8]) -> Turn
     requires { ⌜ (run .from ≤ run .end) × (run .end - run .from + length (now part) < 18446744073709551616) ⌝ }
     ensures { λ r. ⌜ r .run ≡ record { from = 0; end = run .end - run .from + clamped got (length (now (part .entry))); at = run .at; accepted = run .accepted; refused = run .refused } ⌝ }
     ensures { λ r. ⌜ r .run .end ≤ run .end - run .from + length (now (part .entry)) ⌝ }
-    ensures { λ r. ⌜ (r .ended ≡ false → run .end - run .from < r .run .end) ⌝ }
+    ensures { λ r. ⌜ (r .ended ≡ false → run .end - run .from < r .run .end) × (r .ended ≡ true → r .run .end ≡ run .end - run .from) ⌝ }
     ensures { λ r. ⌜ (r .ended ≡ eqb (clamped got (length (now (part .entry)))) 0) × (r .over ≡ false) × (r .failed ≡ ltZ got (pos 0)) ⌝ }
 {
     let more = io::count(got, part);

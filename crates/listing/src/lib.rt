@@ -7,7 +7,7 @@ pub use input::first_line;
 pub use input::next_line;
 pub use rows::dialect_of_line;
 pub use rows::line_rows;
-pub use text::LAST;
+pub use text::LAST_LENGTH;
 pub use text::MOST_TEXT;
 pub use text::put_event;
 pub use text::put_last;

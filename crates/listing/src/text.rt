@@ -28,7 +28,7 @@ const REFUSED: usize = 47;
 
 const ROW: usize = 36;
 
-pub const LAST: usize = 37;
+pub const LAST_LENGTH: usize = 37;
 
 // The most characters that the answer for a line and its rows take: those of a refusal, and of as many rows as a line that is not too long has words.
 pub const MOST_TEXT: usize = REFUSED + ROW * ((LONGEST_LINE - 1) / 5);
@@ -54,7 +54,7 @@ pub fn put_last(cut: bool, accepted: u64, refused: u64, text: &mut [u8]) -> usiz
     ensures count { λ r. ⌜ r ≡ length (fitted (length (now (text .entry))) (lastText cut accepted refused)) ⌝ }
     ensures buffer { λ _. ⌜ now (text .exit) ≡ overlaid (fitted (length (now (text .entry))) (lastText cut accepted refused)) (now (text .entry)) ⌝ }
 {
-    if text.len() < LAST {
+    if text.len() < LAST_LENGTH {
         return 0;
     }
     let middle = put_events(text, cut, accepted);

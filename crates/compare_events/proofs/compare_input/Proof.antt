@@ -14,7 +14,7 @@ put-gathered-requires c κs =
     let g : tie.After-gather = c .before .before .before .before .before in
     let s : tie.Start = g .before .before .before .before in
     let k = g .gather .kept .0 in
-    ((k ∙ s .pre .1 .0, s .pre .1 .1), (g .gather .ensures .0, ap (goesOn (g .gather .result)) k ∙ g .gather .ensures .1))
+    (s .pre .0, ((k ∙ s .pre .1 .0, s .pre .1 .1), (g .gather .ensures .0, ap (goesOn (g .gather .result)) k ∙ g .gather .ensures .1)))
 
 printed : (c : tie.After-put-gathered) → c .put-gathered .result ≤ length (c .put-gathered .last .1 .1 .1 .0)
 printed c = omega (arith, c .put-gathered .ensures .0, c .put-gathered .kept .1 .1 .1 .0)

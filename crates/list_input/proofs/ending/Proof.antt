@@ -13,10 +13,10 @@ not-false true = refl
 not-false false = refl
 
 returns : tie.Need-returns
-returns c = (refl, rw (c .if1 .taken) (not-true (c .before .before .args .state .over)))
+returns c = (refl, refl, rw (c .if1 .taken) (not-true (c .before .before .args .state .over)))
 
 returns-2 : tie.Need-returns-2
-returns-2 c = (refl, rw (c .if1 .left) (not-false (c .before .before .args .state .over)))
+returns-2 c = (refl, refl, rw (c .if1 .left) (not-false (c .before .before .args .state .over)))
 
 pub ending-spec : {M : Type 1} → statement M
 ending-spec = tie.close (tie.spec returns returns-2)

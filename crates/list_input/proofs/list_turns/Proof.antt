@@ -6,7 +6,7 @@ use lib.ListN.{length, take}
 use native.Mathlib.Omega.{arith}
 use borrow.Author.Needs.{needs}
 use Rattle.list_input.specs.Run.{Inside, pointOf}
-use Rattle.list_input.proofs.Turns.{Told, told-start, told-turn, told-wrote}
+use Rattle.list_input.proofs.Turns.{Told, told-start, told-turn, told-listed}
 use Rattle.list_input.proofs.list_turns.Statement.{statement}
 use Rattle.list_input.proofs.list_turns.Tie as tie
 
@@ -39,7 +39,7 @@ loop-holds c =
     (refl, refl, refl, refl, refl, record { begins = omega arith; ends = omega arith; text = omega arith; lines = omega arith }, told-start (s .args .order))
 
 -- there is a turn to take
-taken : (c : tie.Then1 Inv-loop μ-loop) → let l = c .before .before .loop in (0 < l .turns) × (l .state .over ≡ false)
+taken : (c : tie.Then1 Inv-loop μ-loop) → let l = c .before .before .loop in (0 < l .turns) × (l .state .over ≡ false) × (l .state .failed ≡ false)
 taken c = c .before .goes-on .ensures .0 (c .if1 .taken)
 
 turn-requires : tie.Need-turn-requires Inv-loop μ-loop
@@ -49,7 +49,7 @@ turn-requires c κs =
     let v = l .loop .inv in
     let p = entry l .pre .0 in
     let b = entry l .pre .1 in
-    ((rw (v .0, v .4) (v .5), taken t .1), ((rw (v .1) (p .0), rw (v .2) (p .1), rw (v .3) (p .2)), (rw (v .0) (b .0), rw (v .4) (b .1))))
+    ((rw (v .0, v .4) (v .5), taken t .1, taken t .2), ((rw (v .1) (p .0), rw (v .2) (p .1), rw (v .3) (p .2)), (rw (v .0) (b .0), rw (v .4) (b .1))))
 
 loop-less : tie.Need-loop-less Inv-loop μ-loop
 loop-less c = omega (arith, taken (turn-next (turn-taken c)) .0)
@@ -73,7 +73,7 @@ returns : tie.Need-returns Inv-loop μ-loop
 returns c =
     let l : tie.At-loop Inv-loop μ-loop = c .before .before .before in
     let stops = c .before .before .goes-on .ensures .1 (c .before .if1 .left) in
-    rw (c .ending .ensures .0) (told-wrote (c .ending .result .whole) (c .ending .ensures .1) stops (l .loop .inv .6))
+    (c .ending .ensures .0, rw (c .ending .ensures .1) (told-listed (c .ending .result .whole) (c .ending .ensures .2) stops (l .loop .inv .6)))
 
 pub list-turns-spec : {M : Type 1} → statement M
 list-turns-spec =

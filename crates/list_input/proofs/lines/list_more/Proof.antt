@@ -58,7 +58,7 @@ returns c =
           full = λ _ m. (let k = line-next n on m in omega (arith, l .list-lines .ensures .1 .1 .0 (k .0) (k .1)));
           more = λ e. (let k = more-known l e in (k .0, refl, k .1));
         },
-        l .list-lines .ensures .1 .1 .1,
+        (l .list-lines .ensures .1 .1 .1, l .list-lines .ensures .1 .0),
       ),
     )
 
@@ -80,7 +80,7 @@ returns-2 c =
           full = λ _ _. omega (arith, t .if2 .taken, l .list-lines .kept .1 .1 .1 .1 .1 .1 .0);
           more = λ e. absurd (no-more n e);
         },
-        l .list-lines .ensures .1 .1 .1,
+        (l .list-lines .ensures .1 .1 .1, l .list-lines .ensures .1 .0),
       ),
     )
 
@@ -118,7 +118,7 @@ returns-3 c =
           full = λ e. absurd (false≢true (sym e));
           more = λ e. absurd (no-more n e);
         },
-        λ later h. l .list-lines .ensures .1 .1 .1 later h ∙ sym (p .put-rest .ensures .1 later h) ∙ sym (append-nil _),
+        (λ later h. l .list-lines .ensures .1 .1 .1 later h ∙ sym (p .put-rest .ensures .1 later h) ∙ sym (append-nil _), l .list-lines .ensures .1 .0),
       ),
     )
 

@@ -4,7 +4,7 @@ use native.Mathlib.Omega.{arith}
 use mir.ValLaws.{toZ-ofZ}
 use mir.Syntax.{w64}
 use borrow.Author.Needs.{needs}
-use borrow.Author.Tests.{eqb-false}
+use borrow.Author.Tests.{eqb-false, eqb-true}
 use Rattle.listing.proofs.InputLaws.{positive}
 use Rattle.list_input.proofs.streams.after_read.Statement.{statement}
 use Rattle.list_input.proofs.streams.after_read.Tie as tie
@@ -17,7 +17,7 @@ returns c =
       (
         omega (arith, n .ensures .0),
         (
-          λ t. omega (arith, positive (n .result) (eqb-false (n .result) 0 t)),
+          (λ t. omega (arith, positive (n .result) (eqb-false (n .result) 0 t)), λ t. omega (arith, eqb-true (n .result) 0 t)),
           (rw (n .ensures .1, z) refl, refl, rw z refl),
         ),
       ),

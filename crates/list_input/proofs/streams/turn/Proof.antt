@@ -5,6 +5,7 @@ use mathlib.Core.Bool.{true, false≢true}
 use mathlib.Core.List.{List, [], append-nil}
 use Prim.Native.Nat.{ℕ}
 use lib.ListN.{length, take}
+use borrow.Author.Tests.{not-true, not-false}
 use borrow.Author.Needs.{needs}
 use Rattle.list_input.specs.declared.Turn.{Turn}
 use Rattle.list_input.specs.Run.{Inside, pointOf, MorePut, Fed}
@@ -37,7 +38,7 @@ module _ (l : tie.After-list-more) where
   put-anew : MorePut (start .args .order) (start .args .state .ended) (start .args .input .now)
       (record { from = start .args .state .run .from; end = start .args .state .run .end; at = 0; accepted = start .args .state .run .accepted; refused = start .args .state .run .refused })
       (start .args .text .now) (l .list-more .result) (l .list-more .last .1 .1 .1 .1 .1 .1 .0)
-  put-anew = rw (l .before .without-text .ensures) at (l .list-more .ensures .1 .1)
+  put-anew = rw (l .before .without-text .ensures) at (l .list-more .ensures .1 .1 .0)
 
   abbrev text-kept : length (l .list-more .last .1 .1 .1 .1 .1 .1 .0) ≡ length (start .args .text .now)
   text-kept = l .list-more .kept .1 .1 .1 .1 .1 .1 .0
@@ -48,8 +49,8 @@ module _ (l : tie.After-list-more) where
   by-fed {state′} {input′} f =
       let i = l .list-more .ensures .0 in (
         record { begins = f .begins; ends = f .ends; text = rw (f .at) (i .text); lines = rw (f .accepted, f .refused) (i .lines) },
-        turned (start .args .order) (start .args .state) (l .list-more .result) state′ (start .args .input .now) (start .args .text .now) _ input′ f (start .pre .0 .1) put-anew
-            (rw text-kept (l .list-more .ensures .1 .0)) (rw text-kept (start .pre .1 .1 .1)) (rw text-kept (i .text)),
+        turned (start .args .order) (start .args .state) (l .list-more .result) state′ (start .args .input .now) (start .args .text .now) _ input′ f
+            (start .pre .0 .1, start .pre .0 .2) put-anew (l .list-more .ensures .1 .1 .1) (rw text-kept (l .list-more .ensures .1 .0)) (rw text-kept (start .pre .1 .1 .1)) (rw text-kept (i .text)),
       )
 
 returns : tie.Need-returns
@@ -59,7 +60,9 @@ returns c =
     let i = l .list-more .ensures .0 in
     rw (c .stopped .ensures) (by-fed l {state′ = record { run = p .run; ended = start l .args .state .ended; over = p .over; failed = true }} (record {
       piece = [];
-      last = λ e. (refl, e);
+      found = λ _. refl;
+      stays = λ _. (refl, refl);
+      last = λ e. e;
       some = λ _ _ e. absurd (false≢true (sym e));
       rest = sym (append-nil _);
       begins = i .begins;
@@ -70,22 +73,25 @@ returns c =
       over = refl;
     }))
 
+stopped-requires : tie.Need-stopped-requires
+stopped-requires c κs = not-true _ (c .if1 .taken)
+
 go-on-requires : tie.Need-go-on-requires
 go-on-requires c κs =
     let l = text-put (c .before .before) in
     let i = l .list-more .ensures .0 in
-    ((i .begins, i .ends), λ e. (let m = l .list-more .ensures .1 .0 .more e in (m .0, m .1, omega (arith, m .2, start l .pre .1 .1 .0))))
+    (not-false _ (c .before .if1 .left), ((i .begins, i .ends), λ e. (let m = l .list-more .ensures .1 .0 .more e in (m .0, m .1, omega (arith, m .2, start l .pre .1 .1 .0)))))
 
 returns-2 : tie.Need-returns-2
 returns-2 c =
     let g : tie.After-go-on = c .before .before in
     let l = text-put (g .before .before .before) in
-    by-fed l (g .go-on .ensures)
+    by-fed l (g .go-on .ensures .0)
 
 pub turn-spec : {M : Type 1} → statement M
 turn-spec =
     tie.close
-    (tie.spec (λ c κs. search needs) list-more-requires write-requires (λ c κs. search needs)
+    (tie.spec (λ c κs. search needs) list-more-requires write-requires stopped-requires
     (λ c. search needs) (λ c. search needs) (λ c. search needs) (λ c. search needs) (λ c. search needs)
     returns go-on-requires
     (λ c. search needs) (λ c. search needs) (λ c. search needs) (λ c. search needs) (λ c. search needs) returns-2)
