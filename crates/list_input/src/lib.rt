@@ -27,6 +27,15 @@ pub const MOST_LONGWORDS: usize = (LONGEST_LINE - 1) / 9;
 
 pub const MOST_ELEMENTS: usize = 4 * MOST_WORDS;
 
+// The buffers that a listing works in: the input or the text, the words of a line, of either width, and the elements of its rows.
+pub type Characters = [u8; BUFFER];
+
+pub type Words = [u16; MOST_WORDS];
+
+pub type Longwords = [u32; MOST_LONGWORDS];
+
+pub type Elements = [u32; MOST_ELEMENTS];
+
 // Where a run stands: input[from..end] was read and is not listed yet, text[..at] was put last, and so many lines were listed.
 struct Run {
     from: usize,
@@ -68,11 +77,11 @@ pub struct Ended {
 // Lists standard input. The buffers' contents before the call do not matter.
 pub fn list(
     order: StampOrder,
-    input: &mut [u8; BUFFER],
-    words: &mut [u16; MOST_WORDS],
-    longwords: &mut [u32; MOST_LONGWORDS],
-    rows: &mut [u32; MOST_ELEMENTS],
-    text: &mut [u8; BUFFER],
+    input: &mut Characters,
+    words: &mut Words,
+    longwords: &mut Longwords,
+    rows: &mut Elements,
+    text: &mut Characters,
 ) -> Ended
     ensures { λ r. ⌜ (r .order ≡ order) × ListedByTurns order (r .whole) (take (r .put) (now (text .exit))) ⌝ }
 {
