@@ -23,14 +23,14 @@ use Rattle.list_input.specs.declared.Run.{Run}
 use Rattle.list_input.specs.declared.Turn.{Turn}
 use Rattle.list_input.specs.Turns.{Point}
 
--- a run within an input buffer of n characters and a text buffer of m
+-- a run within an input buffer of n characters and a text buffer of m, of no more lines than are listed
 pub record Inside (n m : ℕ) (run : Run) : Type 0 where
   pub begins : run .from ≤ run .end
   pub ends : run .end ≤ n
   pub text : run .at ≤ m
   pub lines : run .accepted + run .refused ≤ mostLines
 
--- a line of so many characters comes next, within what was read, and there is room for its text
+-- a line of so many characters comes next, within what was read, one more may be listed, and there is room for its text
 pub record LineInside (count m : ℕ) (run : Run) : Type 0 where
   pub some : run .from < run .end
   pub within : count ≤ run .end - run .from
@@ -109,8 +109,8 @@ pub record Halts (ended : Bool) (n : ℕ) (put : Put) : Type 0 where
   pub full : put .over ≡ false → (put .next ≡ More → ⊥) → n < put .run .at + (mostText + lastLength)
   pub more : put .next ≡ More → (ended ≡ false) × (put .over ≡ false) × (put .run .end - put .run .from ≤ longestLine)
 
--- A piece of the input came in behind what was not listed yet, and nothing where the input had ended. Where more was needed, some did, or the input has ended, or a
--- read failed; where it was not, nothing was read. All else stayed.
+-- A piece of the input came in behind what was not listed yet, and nothing where the input has ended, which stays so. Where more was needed, some did, or the input
+-- has ended, or a read failed; where it was not, nothing came in and the input has not ended anew. The counts, the text's length and `over` stayed.
 pub record Fed (put : Put) (ended : Bool) (input : List ℕ) (state : Turn) (input′ : List ℕ) : Type 0 where
   pub piece : List ℕ
   pub found : state .ended ≡ true → piece ≡ []

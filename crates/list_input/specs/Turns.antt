@@ -87,7 +87,8 @@ ListsWhole =
     (o : StampOrder) (steps : List Step) → Follow o start steps → behindAll start steps .over ≡ true
     → (later : List ℕ) → MayFollow steps later → wasPut steps ≡ listing o (cameIn steps ++ later)
 
--- Turns are no more than the characters that came in and were put, and two. (What they put is a beginning of the listing, so they end where the input does.)
+-- Turns are no more than the characters that came in and were put, and two. (What they put is a beginning of the listing, `put-by-turns`: of a finite input there
+-- are finitely many.)
 abbrev pub FewTurns : Type 0
 FewTurns = (o : StampOrder) (steps : List Step) → Follow o start steps → length steps ≤ length (cameIn steps) + length (wasPut steps) + 2
 
@@ -96,8 +97,8 @@ abbrev pub mostTurns : ℕ
 mostTurns = 18446744073709551615
 
 -- A listing by turns, and the last text that they put. It is whole where all is put and nothing failed; then their text is the listing of the input. Where it is
--- not, a read or a write failed, or the turns were the most that are taken. No contract of the kit says what was read or written: that these are the turns that
--- were taken is said by the contract of each, of `turn`, and not here.
+-- not, a read or a write failed, or the turns were the most that are taken. No contract of the kit says what was read or written, and this one does not say that
+-- these are the turns that were taken: the contract of `turn` says what one turn does, and the loop of `list_turns` takes them.
 pub record ListedByTurns (o : StampOrder) (whole : Bool) (last : List ℕ) : Type 0 where
   pub steps : List Step
   pub follow : Follow o start steps
@@ -106,7 +107,7 @@ pub record ListedByTurns (o : StampOrder) (whole : Bool) (last : List ℕ) : Typ
   pub listed : whole ≡ true → (later : List ℕ) → MayFollow steps later → wasPut steps ≡ listing o (cameIn steps ++ later)
   pub stopped : whole ≡ false → behindAll start steps .failed ≡ false → length steps ≡ mostTurns
 
--- A listing that is not whole, though nothing failed, took in and put some 2^64 characters.
+-- A listing that is not whole, though nothing failed, took in and put together at least 2^64 - 3 characters.
 abbrev pub NotWhole : Type 0
 NotWhole = (o : StampOrder) (last : List ℕ) (w : ListedByTurns o false last) → behindAll start (w .steps) .failed ≡ false
     → 18446744073709551613 ≤ length (cameIn (w .steps)) + length (wasPut (w .steps))

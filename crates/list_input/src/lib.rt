@@ -120,7 +120,7 @@ fn list_turns(
     ending(order, state)
 }
 
-// There is more to do. (As many turns as a 64-bit number counts are never taken.)
+// There is more to do. (After as many turns as a 64-bit number counts a listing stops too: `NotWhole`.)
 fn goes_on(state: Turn, turns: u64) -> bool
     ensures { λ r. ⌜ (r ≡ true → (0 < turns) × (state .over ≡ false) × (state .failed ≡ false)) ⌝ }
     ensures { λ r. ⌜ (r ≡ false → state .over ≡ false → state .failed ≡ false → turns ≡ 0) ⌝ }
