@@ -26,7 +26,7 @@ use Rattle.listing.proofs.ListingLaws.{first-whole, first-last, begins, list-li
 use Rattle.listing.proofs.Room.{most-text}
 use Rattle.listing.proofs.TextLaws.{last-length}
 use Rattle.list_input.specs.declared.Run.{Run}
-use Rattle.list_input.specs.Run.{Inside, LineInside, restOf, behind, answerTo, rowsTo, LineListed, Kept, RestPut}
+use Rattle.list_input.specs.Run.{Inside, LineInside, anew, restOf, behind, answerTo, rowsTo, LineListed, Kept, RestPut}
 
 lt-of-le-ne : {a b m : ℕ} → b ≤ a → (a ≡ b → ⊥) → m ≡ a → b < m
 lt-of-le-ne {a} {b} {m} h n e = go (ltb b m) refl
@@ -71,7 +71,7 @@ listed-as o {n} {m} {k} {run} {run′} line {text} {text′} a r i l d =
     (listed-inside o line i l e, e)
 
 -- a run whose text was written
-pub emptied : {n m k : ℕ} {run : Run} → Inside n m run → Inside n k (record { from = run .from; end = run .end; at = 0; accepted = run .accepted; refused = run .refused })
+pub emptied : {n m k : ℕ} {run : Run} → Inside n m run → Inside n k (anew run)
 emptied i = record { begins = i .begins; ends = i .ends; text = omega arith; lines = i .lines }
 
 drop-take : (n m k : ℕ) (l : List ℕ) → m ≡ n + k → drop n (take m l) ≡ take k (drop n l)

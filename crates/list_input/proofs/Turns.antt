@@ -17,7 +17,7 @@ use Rattle.listing.specs.Lengths.{mostText, lastLength}
 use Rattle.list_input.specs.declared.Put.{Put}
 use Rattle.list_input.specs.declared.Run.{Run}
 use Rattle.list_input.specs.declared.Turn.{Turn}
-use Rattle.list_input.specs.Run.{restOf, pointOf, MorePut, Fed, Halts}
+use Rattle.list_input.specs.Run.{anew, restOf, pointOf, MorePut, Fed, Halts}
 use Rattle.list_input.specs.Turns.{Point, start, toCome, endCount, Turned, SomeTurn, Step, Follow, behindAll, lastPut, cameIn, wasPut, ListsWhole, FewTurns, mostTurns, ListedByTurns, NotWhole}
 
 -- where the input has ended nothing more comes in
@@ -155,28 +155,30 @@ needed Cut = inr (λ e. impossible cc)
 -- a turn of the program: text that was put from a run whose text was written, and then a piece that came in
 module _ (o : StampOrder) (state : Turn) (put : Put) (state′ : Turn) (input text text′ input′ : List ℕ) (f : Fed put (state .ended) input state′ input′) where
   by-pieces : state .over ≡ false
-      → MorePut o (state .ended) input (record { from = state .run .from; end = state .run .end; at = 0; accepted = state .run .accepted; refused = state .run .refused }) text put text′
+      → MorePut o (state .ended) input (anew (state .run)) text put text′
       → (later : List ℕ) → (state′ .ended ≡ true → later ≡ [])
       → toCome o (pointOf state input) (f .piece ++ later) ≡ take (state′ .run .at) text′ ++ toCome o (pointOf state′ input′) later
   by-pieces on m later l =
       let nothing : state .ended ≡ true → f .piece ++ later ≡ [] = λ e. (let n = f .last e in rw (f .found n, l n) refl) in
       rw (on, f .at, f .accepted, f .refused, f .over, f .rest, append-assoc (restOf (put .run) input) (f .piece) later) (m (f .piece ++ later) nothing)
 
-  moved : Halts (state .ended) (length text′) put → mostText + lastLength ≤ length text′ → put .run .at ≤ length text′ → state′ .over ≡ false → state′ .failed ≡ false
-      → endCount (pointOf state input) < length (take (state′ .run .at) text′) + length (f .piece) + endCount (pointOf state′ input′)
+  abbrev Moves : Type 0
+  Moves = endCount (pointOf state input) < length (take (state′ .run .at) text′) + length (f .piece) + endCount (pointOf state′ input′)
+
+  moved : Halts (state .ended) (length text′) put → mostText + lastLength ≤ length text′ → put .run .at ≤ length text′ → state′ .over ≡ false → state′ .failed ≡ false → Moves
   moved h r w on good = ⊎-elim more full (needed (put .next))
     where
       at : length (take (state′ .run .at) text′) ≡ put .run .at
       at = ap (λ (n : ℕ). length (take n text′)) (f .at) ∙ length-take-le (put .run .at) text′ w
 
-      more : put .next ≡ More → endCount (pointOf state input) < length (take (state′ .run .at) text′) + length (f .piece) + endCount (pointOf state′ input′)
+      more : put .next ≡ More → Moves
       more e = rw (h .more e .0) (go (state′ .ended) refl)
         where
           go : (b : Bool) → state′ .ended ≡ b → 0 < length (take (state′ .run .at) text′) + length (f .piece) + cond (state′ .ended) 1 0
           go true t = rw t (omega arith)
           go false t = rw t (omega (arith, f .some e t good))
 
-      full : (put .next ≡ More → ⊥) → endCount (pointOf state input) < length (take (state′ .run .at) text′) + length (f .piece) + endCount (pointOf state′ input′)
+      full : (put .next ≡ More → ⊥) → Moves
       full e = go (state .ended) refl
         where
           some : 0 < put .run .at
@@ -186,21 +188,25 @@ module _ (o : StampOrder) (state : Turn) (put : Put) (state′ : Turn) (input te
           go true t = rw (t, f .last t) (omega (arith, at, some))
           go false t = rw t (omega (arith, at, some))
 
+  -- what comes next is what is told
   abbrev NextTold : Type 0
   NextTold = put .next ≡ nextOf (restOf (put .run) input) (state .ended) (put .run .accepted + put .run .refused)
 
-  read : Halts (state .ended) (length text′) put → NextTold → endCount (pointOf state input) < length (f .piece) + endCount (pointOf state′ input′)
-      → (rest : List ℕ) × (pointOf state′ input′ .rest ≡ rest ++ f .piece) × (nextOf rest false (state′ .run .accepted + state′ .run .refused) ≡ More)
+  -- what was not listed yet, at which more of the input is needed
+  abbrev Waits : Type 0
+  Waits = (rest : List ℕ) × (pointOf state′ input′ .rest ≡ rest ++ f .piece) × (nextOf rest false (state′ .run .accepted + state′ .run .refused) ≡ More)
+
+  read : Halts (state .ended) (length text′) put → NextTold → endCount (pointOf state input) < length (f .piece) + endCount (pointOf state′ input′) → Waits
   read h nx lt = ⊎-elim more none (needed (put .next))
     where
-      more : put .next ≡ More → (rest : List ℕ) × (pointOf state′ input′ .rest ≡ rest ++ f .piece) × (nextOf rest false (state′ .run .accepted + state′ .run .refused) ≡ More)
+      more : put .next ≡ More → Waits
       more e = (restOf (put .run) input, f .rest, rw (f .accepted, f .refused) (rw (h .more e .0) at (sym nx ∙ e)))
 
-      none : (put .next ≡ More → ⊥) → (rest : List ℕ) × (pointOf state′ input′ .rest ≡ rest ++ f .piece) × (nextOf rest false (state′ .run .accepted + state′ .run .refused) ≡ More)
+      none : (put .next ≡ More → ⊥) → Waits
       none n = let s = f .stays n in absurd (omega (arith, rw (s .0, s .1) at lt))
 
   pub turned : (state .over ≡ false) × (state .failed ≡ false)
-      → MorePut o (state .ended) input (record { from = state .run .from; end = state .run .end; at = 0; accepted = state .run .accepted; refused = state .run .refused }) text put text′ → NextTold
+      → MorePut o (state .ended) input (anew (state .run)) text put text′ → NextTold
       → Halts (state .ended) (length text′) put → mostText + lastLength ≤ length text′ → put .run .at ≤ length text′
       → SomeTurn o (pointOf state input) (take (state′ .run .at) text′) (pointOf state′ input′)
   turned on m nx h r w = (f .piece, record { taken = on; last = f .last; found = f .found; reads = read h nx; puts = by-pieces (on .0) m; moves = moved h r w })

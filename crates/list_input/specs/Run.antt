@@ -41,6 +41,10 @@ pub record LineInside (count m : ℕ) (run : Run) : Type 0 where
 abbrev pub Rooms : (words longwords rows : List ℕ) → Type 0
 Rooms words longwords rows = (mostWords S ≤ length words) × (mostWords F ≤ length longwords) × (4 * mostRows ≤ length rows)
 
+-- a run whose next text is put from the front
+abbrev pub anew : Run → Run
+anew run = record { from = run .from; end = run .end; at = 0; accepted = run .accepted; refused = run .refused }
+
 -- the characters that were read and are not listed yet
 abbrev pub restOf : Run → List ℕ → List ℕ
 restOf run input = take (run .end - run .from) (drop (run .from) input)

@@ -19,7 +19,7 @@ ghost use Rattle.io.specs.Counts.{clamped};
 ghost use Rattle.listing.specs.declared.Next.the-variants.{More};
 ghost use Rattle.hex_line.specs.Line.{longestLine};
 ghost use Rattle.listing.specs.Lengths.{mostText, lastLength};
-ghost use Rattle.list_input.specs.Run.{Inside, Rooms, restOf, pointOf, Fed};
+ghost use Rattle.list_input.specs.Run.{Inside, Rooms, anew, restOf, pointOf, Fed};
 ghost use Rattle.list_input.specs.Turns.{SomeTurn};
 
 // Lists what was read, writes what is listed, and then reads more where it is needed.
@@ -58,7 +58,7 @@ pub(crate) fn turn(
 
 // The run before its next text is put.
 fn without_text(run: Run) -> Run
-    ensures { λ r. ⌜ r ≡ record { from = run .from; end = run .end; at = 0; accepted = run .accepted; refused = run .refused } ⌝ }
+    ensures { λ r. ⌜ r ≡ anew run ⌝ }
 {
     Run {
         from: run.from,

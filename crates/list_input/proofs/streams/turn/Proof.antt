@@ -8,7 +8,7 @@ use lib.ListN.{length, take}
 use borrow.Author.Tests.{not-true, not-false}
 use borrow.Author.Needs.{needs}
 use Rattle.list_input.specs.declared.Turn.{Turn}
-use Rattle.list_input.specs.Run.{Inside, pointOf, MorePut, Fed}
+use Rattle.list_input.specs.Run.{Inside, anew, pointOf, MorePut, Fed}
 use Rattle.list_input.specs.Turns.{SomeTurn}
 use Rattle.list_input.proofs.Steps.{emptied}
 use Rattle.list_input.proofs.Turns.{turned}
@@ -36,7 +36,7 @@ module _ (l : tie.After-list-more) where
   start = entry (l .before)
 
   put-anew : MorePut (start .args .order) (start .args .state .ended) (start .args .input .now)
-      (record { from = start .args .state .run .from; end = start .args .state .run .end; at = 0; accepted = start .args .state .run .accepted; refused = start .args .state .run .refused })
+      (anew (start .args .state .run))
       (start .args .text .now) (l .list-more .result) (l .list-more .last .1 .1 .1 .1 .1 .1 .0)
   put-anew = rw (l .before .without-text .ensures) at (l .list-more .ensures .1 .1 .0)
 
