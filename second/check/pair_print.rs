@@ -33,6 +33,7 @@ pub fn run() -> Result<(), String> {
     check_tails()?;
     check_refused()?;
     check_others()?;
+    check_datum()?;
     check_30()?;
     check_lengths()
 }
@@ -149,6 +150,26 @@ row 00000001 second 00000021 00000000 00000000 00000001
 end words 00000002 tail 00000002 rows 00000002
 ";
     ensure_print(&format!("{SUM_ALONE}\n{REGISTER}\n"), regions)
+}
+
+/// Spoken case 11 with the thirteenth of 02, #106, whose bit 14 is of the datum; with bit 15 in its
+/// place there are no rows.
+fn check_datum() -> Result<(), String> {
+    let module = |data: &str| format!("{CASE_10} 6a000001 {data} 6c000005\n");
+    let case_13 = "first  rows 00000005
+second rows 00000005
+word 00000008 first 68040061 second 6804404b
+row 00000004 first  00000016 0000000d 00000004 00000061
+row 00000004 second 00000016 0000000d 00000004 0000404b
+end words 00000001 tail 00000000 rows 00000001
+";
+    ensure_print(&[module("68040061"), module("6804404b")].concat(), case_13)?;
+    let bit_15 = "first  rows 00000005
+second refused 0000000a place 00000008
+word 00000008 first 6804404b second 6804804b
+end words 00000001 tail 00000000 rows 00000000
+";
+    ensure_print(&[module("6804404b"), module("6804804b")].concat(), bit_15)
 }
 
 /// Lines that are missing, empty, malformed or of another dialect than the first.

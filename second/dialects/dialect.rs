@@ -19,7 +19,8 @@ pub struct Dialect {
     /// None where no number is fixed by the whole event, or where the parts' own repair sets it.
     pub mend: Option<Mend>,
     pub wanted: Wanted,
-    /// Stored calls at the smallest and the largest sizes, with the rooms around what they need.
+    /// Stored calls at the smallest and the largest sizes, with the rooms around what they need, and
+    /// calls whose answer is to be no refusal for want of room.
     pub large_readings: fn() -> Vec<Vector>,
     pub large_writings: fn() -> Vec<Vector>,
     /// Checks the cases that the documents spell out.

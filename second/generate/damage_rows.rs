@@ -6,9 +6,10 @@ use crate::rng::Rng;
 use crate::vectors::MOST_ELEMENTS;
 
 /// Numbers just inside and just outside the range of some field.
-pub const FIELD_LIMITS: [u32; 32] = [
+pub const FIELD_LIMITS: [u32; 34] = [
     0, 1, 3, 4, 5, 6, 7, 8, 11, 12, 15, 16, 31, 32, 33, 0x3f, 0x40, 0xff, 0x100, 0x1ff, 0x200,
-    0x3ff, 0x400, 0xfff, 0x1000, 0x1fff, 0x2000, 0x3fff, 0x4000, 0xffff, 0x1_0000, 0xffffffff,
+    0x3ff, 0x400, 0xfff, 0x1000, 0x1fff, 0x2000, 0x3fff, 0x4000, 0x7fff, 0x8000, 0xffff, 0x1_0000,
+    0xffffffff,
 ];
 
 /// The elements of rows, damaged in one or two ways, then often mended.

@@ -139,9 +139,11 @@ cases =
     ∷ case 16 S Crossed longer event 3 0 (Listed 1 0) (0 ∷ 0x0012 ∷ 0x000e ∷ []) []
     ∷ case 16 S Crossed event [] 0 0 (Listed 0 0) [] []
     ∷ case 16 S Crossed [] [] 0 0 (Listed 0 0) [] []
-    -- F, and F in words of 16 bits: no event, so no rows; S in words of 32 bits likewise
+    -- F, with bit 14 a datum's and bit 15 none's (#106), and F in words of 16 bits: no event, so no rows; S in words of 32 bits likewise
     ∷ case 32 F Crossed (f 0x68040061) (f 0x68040062) 3 9 (Listed 1 1) datum (4 ∷ 22 ∷ 13 ∷ 4 ∷ 97 ∷ 22 ∷ 13 ∷ 4 ∷ 98 ∷ [])
     ∷ case 32 F Crossed (f 0x68040061) (f 0x68040062) 3 8 (Refused 25 1) (nines 3) (nines 8)
+    ∷ case 32 F Crossed (f 0x6804004b) (f 0x6804404b) 3 9 (Listed 1 1) (8 ∷ 0x6804004b ∷ 0x6804404b ∷ []) (4 ∷ 22 ∷ 13 ∷ 4 ∷ 75 ∷ 22 ∷ 13 ∷ 4 ∷ 16459 ∷ [])
+    ∷ case 32 F Crossed (f 0x6804404b) (f 0x6804c04b) 3 9 (Listed 1 0) (8 ∷ 0x6804404b ∷ 0x6804c04b ∷ []) (nines 9)
     ∷ case 16 F Crossed (f 0x68040061) (f 0x68040062) 3 0 (Listed 1 0) datum []
     ∷ case 32 S Crossed event changed 3 9 (Listed 1 0) word (nines 9)
     ∷ case 32 R Crossed small large 6 18 (Listed 2 0) regionWords (nines 18)

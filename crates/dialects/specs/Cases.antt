@@ -1,4 +1,4 @@
--- The twelve spoken cases of document 01, the seventh as document 02 has it (#103): a single table.
+-- The twelve spoken cases of document 01, the seventh as document 02 has it (#103), and document 02's thirteenth (#106): a single table.
 -- Assumes nothing.
 use Prim.Native.Nat.{ℕ}
 use mathlib.Core.Path.{_≡_}
@@ -58,8 +58,10 @@ cases =
     ∷ case F Crossed (f []) (done (fRows []))
     ∷ case F Crossed (f (0x6a000001 ∷ 0x68040061 ∷ 0x6c000005 ∷ [])) (done (fRows (row 21 13 1 5 ∷ row 22 13 4 97 ∷ [])))
     ∷ case F Crossed (f (0x46000000 ∷ 0x46000000 ∷ [])) (refused 11 8)
+    -- 13: case 11 with a datum that has bit 14, 16384 + 75
+    ∷ case F Crossed (f (0x6a000001 ∷ 0x6804404b ∷ 0x6c000005 ∷ [])) (done (fRows (row 21 13 1 5 ∷ row 22 13 4 16459 ∷ [])))
     ∷ []
 
--- There are twelve, and each has its outcome.
+-- There are thirteen, and each has its outcome.
 abbrev pub SpokenCases : Type 0
-SpokenCases = (length cases ≡ 12) × (map (λ c. reading (c .dialect) (c .order) (c .words)) cases ≡ map (λ c. c .outcome) cases)
+SpokenCases = (length cases ≡ 13) × (map (λ c. reading (c .dialect) (c .order) (c .words)) cases ≡ map (λ c. c .outcome) cases)

@@ -39,5 +39,5 @@ pub const PATTERN_END: u32 = 0x2c00_0000;
 // A block has at most this many values.
 pub const LARGEST_COUNT: u32 = 32;
 
-// A datum is below this number.
-pub const DATUM_END: u32 = 16384;
+// A datum, bits 14-0 of a data longword, is below this number (document 02, #106).
+pub const DATUM_END: u32 = 32768;

@@ -1,4 +1,4 @@
--- Readings of dialect F at the edges of its tables, computed. The expected outcomes are document 01's.
+-- Readings of dialect F at the edges of its tables, computed. The expected outcomes are document 01's, and document 02's (#106) for a datum.
 -- Assumes nothing.
 use Prim.Native.Nat.{ℕ, _+_, _*_, _^_}
 use mathlib.Core.Path.{_≡_, refl}
@@ -174,20 +174,30 @@ fits =
     ∷ no (0x6a000020 ∷ module1 0x68040061 0x6c000005) 5 7
     ∷ ok (whole 13) (wholeRows 13) ∷ ok (whole 13 ++ whole 12) (wholeRows 13 ++ wholeRows 12) ∷ []
 
--- Data with the same GEO, flag 0, channel in bits 20-16, bits 23-21 and 15-14 zero: 10. No channel twice: 11, at the second; another module's channels are its own.
-abbrev values : List Vector
-values =
-    ok (module1 0x68000000 0x6c000005) (row 21 13 1 5 ∷ row 22 13 0 0 ∷ []) ∷ ok (module1 0x681f3fff 0x6c000005) (row 21 13 1 5 ∷ row 22 13 31 16383 ∷ [])
-    ∷ ok (module1 0x68003fff 0x6c000005) (row 21 13 1 5 ∷ row 22 13 0 16383 ∷ []) ∷ ok (module1 0x681f0000 0x6c000005) (row 21 13 1 5 ∷ row 22 13 31 0 ∷ [])
-    ∷ map (λ w. no (module1 w 0x6c000005) 10 8)
+-- Data with the same GEO, flag 0, channel in bits 20-16, bits 23-21 and 15 zero, datum in bits 14-0 (#106)
+abbrev goodData : List Vector
+goodData =
+    ok (module1 0x68000000 0x6c000005) (row 21 13 1 5 ∷ row 22 13 0 0 ∷ []) ∷ ok (module1 0x681f0000 0x6c000005) (row 21 13 1 5 ∷ row 22 13 31 0 ∷ [])
+    ∷ ok (module1 0x68003fff 0x6c000005) (row 21 13 1 5 ∷ row 22 13 0 16383 ∷ []) ∷ ok (module1 0x681f3fff 0x6c000005) (row 21 13 1 5 ∷ row 22 13 31 16383 ∷ [])
+    ∷ ok (module1 0x68004000 0x6c000005) (row 21 13 1 5 ∷ row 22 13 0 16384 ∷ []) ∷ ok (module1 0x681f4000 0x6c000005) (row 21 13 1 5 ∷ row 22 13 31 16384 ∷ [])
+    ∷ ok (module1 0x68007fff 0x6c000005) (row 21 13 1 5 ∷ row 22 13 0 32767 ∷ []) ∷ ok (module1 0x681f7fff 0x6c000005) (row 21 13 1 5 ∷ row 22 13 31 32767 ∷ [])
+    ∷ ok (module2 0x6804404b 0x6803004b 0x6c000005) (row 21 13 2 5 ∷ row 22 13 4 16459 ∷ row 22 13 3 75 ∷ [])
+    ∷ ok (set (whole 13) 32 0x681f4000) (set (wholeRows 13) 32 (row 22 13 31 16384))
+    ∷ ok (0x6a000020 ∷ (rising 0x68007fff 0x00010000 32 ++ (0x6c000005 ∷ []))) (row 21 13 32 5 ∷ map (λ c. row 22 13 c 32767) (rising 0 1 32)) ∷ []
+
+-- else 10. No channel twice: 11, at the second; another module's channels are its own.
+abbrev badData : List Vector
+badData =
+    map (λ w. no (module1 w 0x6c000005) 10 8)
     (0 ∷ 0x60040061 ∷ 0x70040061 ∷ 0x28040061 ∷ 0xe8040061 ∷ 0x69040061 ∷ 0x6a040061 ∷ 0x6c040061 ∷ 0x6e040061 ∷ 0x6f040061 ∷ 0x68240061 ∷ 0x68440061 ∷ 0x68840061 ∷ 0x68200000
-    ∷ 0x68044000 ∷ 0x68048000 ∷ 0x6804c061 ∷ 0x67ffffff ∷ 0x6c000005 ∷ [])
-    ++ map (λ w. no (module2 0x68050061 w 0x6c000005) 10 9) (0x60040061 ∷ 0x70040061 ∷ 0x69040061 ∷ 0x68240061 ∷ 0x68844061 ∷ 0x6c000005 ∷ 0x69050061 ∷ 0x60050061 ∷ 0x68054061 ∷ 0x68058061 ∷ 0x68250061 ∷ [])
+    ∷ 0x68008000 ∷ 0x681f8000 ∷ 0x68048000 ∷ 0x6804bfff ∷ 0x6804c061 ∷ 0x6804ffff ∷ 0x67ffffff ∷ 0x6c000005 ∷ [])
+    ++ map (λ w. no (module2 0x68050061 w 0x6c000005) 10 9)
+    (0x60040061 ∷ 0x70040061 ∷ 0x69040061 ∷ 0x68240061 ∷ 0x68844061 ∷ 0x6c000005 ∷ 0x69050061 ∷ 0x60050061 ∷ 0x68058061 ∷ 0x6805c061 ∷ 0x68250061 ∷ [])
     ++ (no (module2 0x68040061 0x68040061 0x6c000005) 11 9 ∷ no (module2 0x68040061 0x68040000 0) 11 9 ∷ no (module2 0x68000000 0x68000001 0x6c000005) 11 9
-    ∷ no (module2 0x681f0000 0x681f3fff 0x6c000005) 11 9 ∷ no (module2 0x60040061 0x60040061 0) 10 8
+    ∷ no (module2 0x681f0000 0x681f3fff 0x6c000005) 11 9 ∷ no (module2 0x6804004b 0x6804404b 0x6c000005) 11 9 ∷ no (module2 0x60040061 0x60040061 0) 10 8
     ∷ no (0x6a000003 ∷ 0x68040061 ∷ 0x68050061 ∷ 0x68040062 ∷ 0x6c000005 ∷ []) 11 10
     ∷ no (0x6a000003 ∷ 0x68040061 ∷ 0x68040061 ∷ 0 ∷ 0x6c000005 ∷ []) 11 9 ∷ no (0x6a000003 ∷ 0x68040061 ∷ 0 ∷ 0x68040061 ∷ 0x6c000005 ∷ []) 10 9
-    ∷ no (set (whole 13) 32 0x68000000) 11 39 ∷ no (set (whole 13) 32 0x681e0000) 11 39 ∷ no (set (whole 13) 32 0x681f4000) 10 39
+    ∷ no (set (whole 13) 32 0x68000000) 11 39 ∷ no (set (whole 13) 32 0x681e0000) 11 39 ∷ no (set (whole 13) 32 0x681f8000) 10 39
     ∷ ok (module1 0x68040061 0x6c000005 ++ (0x72000001 ∷ 0x70040061 ∷ 0x74000005 ∷ [])) (row 21 13 1 5 ∷ row 22 13 4 97 ∷ row 21 14 1 5 ∷ row 22 14 4 97 ∷ [])
     ∷ no (module1 0x68040061 0x6c000005 ++ (0x72000001 ∷ 0x68050061 ∷ 0x74000005 ∷ [])) 10 11 ∷ [])
 
@@ -215,7 +225,7 @@ twice =
     ∷ no (one 8 ++ (0x42000020 ∷ [])) 11 10 ∷ no (0x46000000 ∷ 0x4a000001 ∷ []) 5 8 ∷ [])
 
 abbrev pub vectors : List Vector
-vectors = events ++ stamps ++ scalerHeaders ++ scalers ++ patternUnits ++ headers ++ fits ++ values ++ footers ++ twice
+vectors = events ++ stamps ++ scalerHeaders ++ scalers ++ patternUnits ++ headers ++ fits ++ goodData ++ badData ++ footers ++ twice
 
 -- each reading is the expected one
 pub edges : map (λ (v : Vector). reading (v .words)) vectors ≡ map (λ (v : Vector). v .outcome) vectors

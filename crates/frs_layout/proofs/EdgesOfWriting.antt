@@ -1,4 +1,5 @@
--- Writings of dialect F at the edges of its tables, computed (those of the largest event: crate frs_sizes). The expected outcomes are document 01's. (23 is none of them: 4 + 34 + 4 + 30 × 34 longwords are the most that rows can ask for.)
+-- Writings of dialect F at the edges of its tables, computed (those of the largest event: crate frs_sizes). The expected outcomes are document 01's, and
+-- document 02's (#106) for a datum. (23 is none of them: 4 + 34 + 4 + 30 × 34 longwords are the most that rows can ask for.)
 -- Assumes nothing.
 use Prim.Native.Nat.{ℕ, _+_, _*_, _^_}
 use mathlib.Core.Path.{_≡_, refl}
@@ -115,7 +116,7 @@ headers =
     ∷ ok (row 20 9 0 0 ∷ row 20 8 0 0 ∷ row 20 0 0 0 ∷ []) (0x4e000000 ∷ 0x46000000 ∷ 0x06000000 ∷ [])
     ∷ ok (map (λ g. row 20 g 0 0) geos) (map (λ g. g * 2 ^ 27 + 0x06000000) geos) ∷ no (map (λ g. row 20 g 0 0) geos ++ (row 20 7 0 0 ∷ [])) 22 33 ∷ [])
 
--- as many values as the count says, kind 22; the same GEO, channel 0 to 31 and none twice, a datum of 14 bits. One too few or too many is 21 where it shows.
+-- as many values as the count says, kind 22; the same GEO, channel 0 to 31 and none twice, a datum of 15 bits (#106). One too few or too many is 21 where it shows.
 abbrev values : List Vector
 values =
     no (row 21 13 1 5 ∷ []) 21 4 ∷ no (row 21 13 2 5 ∷ row 22 13 4 97 ∷ []) 21 5 ∷ no (row 21 13 32 5 ∷ risingRows 22 13 0 100 31) 21 35
@@ -123,15 +124,20 @@ values =
     ∷ no (row 20 13 0 0 ∷ row 22 13 4 97 ∷ []) 21 4
     ∷ ok (wholeRows 13) (whole 13) ∷ ok (wholeRows 13 ++ (row 20 0 0 0 ∷ [])) (whole 13 ++ (0x06000000 ∷ []))
     ∷ ok (row 21 13 2 5 ∷ row 22 13 31 16383 ∷ row 22 13 0 0 ∷ []) (0x6a000002 ∷ 0x681f3fff ∷ 0x68000000 ∷ 0x6c000005 ∷ [])
+    ∷ ok (row 21 13 2 5 ∷ row 22 13 31 16384 ∷ row 22 13 0 16383 ∷ []) (0x6a000002 ∷ 0x681f4000 ∷ 0x68003fff ∷ 0x6c000005 ∷ [])
+    ∷ ok (row 21 13 2 5 ∷ row 22 13 31 32767 ∷ row 22 13 0 16384 ∷ []) (0x6a000002 ∷ 0x681f7fff ∷ 0x68004000 ∷ 0x6c000005 ∷ [])
+    ∷ ok (row 21 13 1 5 ∷ row 22 13 0 32767 ∷ []) (0x6a000001 ∷ 0x68007fff ∷ 0x6c000005 ∷ [])
+    ∷ ok (row 21 13 32 5 ∷ map (λ c. row 22 13 c 32767) (rising 0 1 32)) (0x6a000020 ∷ (rising 0x68007fff 0x00010000 32 ++ (0x6c000005 ∷ [])))
     ∷ map (λ k. no (row 21 13 1 5 ∷ row k 13 4 97 ∷ []) 21 4) (0 ∷ 1 ∷ 16 ∷ 17 ∷ 18 ∷ 19 ∷ 20 ∷ 21 ∷ 23 ∷ 0x00010016 ∷ [])
     ++ (no (row 21 13 2 5 ∷ row 22 13 4 97 ∷ row 20 14 0 0 ∷ []) 21 5 ∷ no (row 21 13 2 5 ∷ row 22 13 4 97 ∷ one 14) 21 5 ∷ [])
     ++ map (λ r. no (row 21 13 2 5 ∷ row 22 13 4 97 ∷ r ∷ []) 22 5)
-    (row 22 12 5 97 ∷ row 22 14 5 97 ∷ row 22 0 5 97 ∷ row 22 45 5 97 ∷ row 22 13 32 97 ∷ row 22 13 36 97 ∷ row 22 13 0xffffffff 97 ∷ row 22 13 5 16384 ∷ row 22 13 5 0xffffffff ∷ row 22 13 4 97 ∷ row 22 13 4 98 ∷ [])
-    ++ map (λ r. no (row 21 13 1 5 ∷ r ∷ []) 22 4) (row 22 12 4 97 ∷ row 22 14 4 97 ∷ row 22 13 32 97 ∷ row 22 13 4 16384 ∷ [])
+    (row 22 12 5 97 ∷ row 22 14 5 97 ∷ row 22 0 5 97 ∷ row 22 45 5 97 ∷ row 22 13 32 97 ∷ row 22 13 36 97 ∷ row 22 13 0xffffffff 97
+    ∷ row 22 13 5 32768 ∷ row 22 13 5 49152 ∷ row 22 13 5 0xffffffff ∷ row 22 13 4 97 ∷ row 22 13 4 98 ∷ [])
+    ++ map (λ r. no (row 21 13 1 5 ∷ r ∷ []) 22 4) (row 22 12 4 97 ∷ row 22 14 4 97 ∷ row 22 13 32 97 ∷ row 22 13 0 32768 ∷ row 22 13 31 32768 ∷ row 22 13 4 65536 ∷ [])
     ++ (no (set (wholeRows 13) 32 (row 22 13 30 0)) 22 35 ∷ no (set (wholeRows 13) 32 (row 22 13 0 0)) 22 35
     ∷ ok (row 21 13 1 5 ∷ row 22 13 4 97 ∷ row 21 14 1 5 ∷ row 22 14 4 97 ∷ []) (0x6a000001 ∷ 0x68040061 ∷ 0x6c000005 ∷ 0x72000001 ∷ 0x70040061 ∷ 0x74000005 ∷ [])
     ∷ no (row 21 13 1 5 ∷ row 22 13 4 97 ∷ row 21 14 1 5 ∷ row 22 13 5 97 ∷ []) 22 6
-    ∷ no (row 21 13 2 5 ∷ row 22 13 4 16384 ∷ row 20 14 0 0 ∷ []) 22 4 ∷ no (row 21 13 2 5 ∷ row 20 5 1 1 ∷ []) 21 4 ∷ [])
+    ∷ no (row 21 13 2 5 ∷ row 22 13 4 32768 ∷ row 20 14 0 0 ∷ []) 22 4 ∷ no (row 21 13 2 5 ∷ row 20 5 1 1 ∷ []) 21 4 ∷ [])
 
 abbrev pub vectors : List Vector
 vectors = ends ++ stamps ++ scalers ++ patternUnits ++ kinds ++ headers ++ values

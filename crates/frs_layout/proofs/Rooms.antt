@@ -38,9 +38,9 @@ readings =
     ∷ case bad (nines 40) (Refused 10 8) (nines 40)
     ∷ []
 
--- case 11's rows with a datum wider than 14 bits: 22 at row 4
+-- case 11's rows with a datum wider than 15 bits: 22 at row 4
 abbrev badElements : List ℕ
-badElements = 16 ∷ 0x17ff ∷ 0x38e1 ∷ 0x0563 ∷ 17 ∷ 6 ∷ 1 ∷ 0 ∷ 18 ∷ 6 ∷ 0 ∷ 42 ∷ 21 ∷ 13 ∷ 1 ∷ 5 ∷ 22 ∷ 13 ∷ 4 ∷ 0x4000 ∷ []
+badElements = 16 ∷ 0x17ff ∷ 0x38e1 ∷ 0x0563 ∷ 17 ∷ 6 ∷ 1 ∷ 0 ∷ 18 ∷ 6 ∷ 0 ∷ 42 ∷ 21 ∷ 13 ∷ 1 ∷ 5 ∷ 22 ∷ 13 ∷ 4 ∷ 0x8000 ∷ []
 
 abbrev writings : List RoomCase
 writings =

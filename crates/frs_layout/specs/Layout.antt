@@ -18,11 +18,11 @@ use Rattle.frs_layout.specs.Event.{Stamp, PatternUnit, Value, Module, em
 abbrev pub longword : (geo flag low : ℕ) → ℕ
 longword geo flag low = geo * 2 ^ 27 + flag * 2 ^ 24 + low
 
--- the number of a datum's bits
+-- a datum has bits 14-0 (document 02, #106)
 abbrev pub datumBits : ℕ
-datumBits = 14
+datumBits = 15
 
--- a data longword: flag 0, channel in bits 20-16, datum below
+-- a data longword: flag 0, bits 23-21 zero, channel in bits 20-16, bit 15 zero, the datum below
 abbrev pub valueWord : (geo : ℕ) → Value → ℕ
 valueWord geo v = longword geo 0 (v .channel * 2 ^ 16 + v .datum)
 

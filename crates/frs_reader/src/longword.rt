@@ -90,7 +90,7 @@ pub(crate) fn header_fault(seen: u32, w: u32) -> u32
     0
 }
 
-// The refusal that a data longword of the module with this GEO meets, 0 for none. Bits 31-21 and 15-14 must be the GEO over zeros, the flag 0 among them:
+// The refusal that a data longword of the module with this GEO meets, 0 for none. Bits 31-21 and 15 must be the GEO over zeros, the flag 0 among them:
 // written so, they are one mask and one comparison.
 pub(crate) fn value_fault(geo: u32, seen: u32, w: u32) -> u32
     requires { ⌜ geo < 32 ⌝ }

@@ -124,7 +124,8 @@ fn damage_ends(rng: &mut Rng, block: &mut Block) {
     };
 }
 
-/// One longword after the first, if there is one: bits, GEO, flag, channel, reserved bits.
+/// One longword after the first, if there is one: bits, GEO, flag, channel, reserved bits, of which
+/// bit 15, next to the datum, is as frequent as two others.
 fn damage_word(rng: &mut Rng, block: &mut Block) {
     let one = rng.within(1.min(block.len() - 1), block.len() - 1);
     let other = rng.below(block.len());
@@ -132,7 +133,7 @@ fn damage_word(rng: &mut Rng, block: &mut Block) {
     match rng.below(9) {
         0 => block[one] ^= 1 << rng.below(32),
         1 | 6 | 7 => block[one] = word & 0xffe0_ffff | block[other] & 0x001f_0000,
-        2 => block[one] = word ^ rng.pick(&[1 << 14, 1 << 15, 1 << 21, 1 << 22, 1 << 23]),
+        2 => block[one] = word ^ rng.pick(&[1 << 15, 1 << 15, 1 << 21, 1 << 22, 1 << 23]),
         3 => block[one] = word & 0x07ff_ffff | (rng.below(32) as u32) << 27,
         4 => block[one] = word & 0xf8ff_ffff | (rng.below(8) as u32) << 24,
         5 => block.swap(one, other),

@@ -1,11 +1,11 @@
 //! Systematic events of dialect F, acceptable ones at every edge and refused ones beyond it.
 
 use super::layout::{
-    tagged, DATA_FLAG, EMPTY_FLAG, FOOTER_FLAG, HEADER_FLAG, PATTERN_FOOTER, PATTERN_HEADER,
-    SCALER_FOOTER, SCALER_GEO,
+    tagged, DATA_FLAG, EMPTY_FLAG, FOOTER_FLAG, HEADER_FLAG, LARGEST_DATUM, PATTERN_FOOTER,
+    PATTERN_HEADER, SCALER_FOOTER, SCALER_GEO,
 };
 use super::make::{module_geos, Block};
-use super::two_faults;
+use super::{datum_edges, listing, two_faults};
 use crate::dialects::{refused, Edges, Probed};
 
 /// F has no lengths: its headers are among the layouts.
@@ -15,7 +15,8 @@ pub fn edges() -> Edges<u32> {
         layouts: layouts(),
         headers: vec![],
         probed: vec![Probed { words: every_block(), first_word: 0, first_row: 0 }],
-        answered: refused(two_faults::events()),
+        answered: [refused(two_faults::events()), datum_edges::answered(), listing::answered()]
+            .concat(),
     }
 }
 
@@ -43,7 +44,8 @@ fn pattern_unit() -> Block {
 /// A module with channels from 0 up, each datum the largest.
 pub fn module(geo: u32, count: u32) -> Block {
     let mut words = vec![tagged(geo, HEADER_FLAG, count)];
-    words.extend((0..count).map(|channel| tagged(geo, DATA_FLAG, channel % 32 << 16 | 0x3fff)));
+    let data = (0..count).map(|channel| channel % 32 << 16 | LARGEST_DATUM);
+    words.extend(data.map(|lower| tagged(geo, DATA_FLAG, lower)));
     words.push(tagged(geo, FOOTER_FLAG, 0xffff));
     words
 }

@@ -1,6 +1,7 @@
-//! Stored calls of dialect F that read or write 7 and about 1,062 longwords.
+//! Stored calls of dialect F that read or write 7 and about 1,062 longwords, and readings of data at
+//! their limits with the room that their rows need.
 
-use super::{edges, read, DIALECT};
+use super::{datum_edges, edges, read, DIALECT};
 use crate::base::{Order, Row};
 use crate::vectors::Vector;
 
@@ -18,6 +19,10 @@ pub fn readings() -> Vec<Vector> {
         for room in [needed - 1, needed, needed + 5] {
             vectors.push(Vector::reading(&DIALECT, ORDER, room, words.clone()));
         }
+    }
+    for (answer, words) in datum_edges::answered() {
+        let Ok(rows) = answer else { continue };
+        vectors.push(Vector::reading(&DIALECT, ORDER, 4 * rows.len(), words));
     }
     vectors
 }

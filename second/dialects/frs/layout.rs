@@ -14,6 +14,8 @@ pub const DATA_FLAG: u32 = 0;
 pub const HEADER_FLAG: u32 = 2;
 pub const FOOTER_FLAG: u32 = 4;
 pub const EMPTY_FLAG: u32 = 6;
+/// The datum of a data longword is bits 14-0 (02, #106).
+pub const LARGEST_DATUM: u32 = 0x7fff;
 
 pub fn geo(word: u32) -> u32 {
     word >> 27

@@ -1,8 +1,8 @@
 //! Acceptable events of dialect F, kept as blocks so that damage can repair counts.
 
 use super::layout::{
-    tagged, DATA_FLAG, EMPTY_FLAG, FOOTER_FLAG, HEADER_FLAG, PATTERN_FOOTER, PATTERN_HEADER,
-    PATTERN_UPPER, SCALER_FOOTER, SCALER_GEO, STAMP_HEAD, STAMP_UPPER,
+    tagged, DATA_FLAG, EMPTY_FLAG, FOOTER_FLAG, HEADER_FLAG, LARGEST_DATUM, PATTERN_FOOTER,
+    PATTERN_HEADER, PATTERN_UPPER, SCALER_FOOTER, SCALER_GEO, STAMP_HEAD, STAMP_UPPER,
 };
 use crate::rng::Rng;
 
@@ -87,8 +87,18 @@ fn module(rng: &mut Rng, geo: u32, count: usize) -> Block {
     let mut words = vec![tagged(geo, HEADER_FLAG, count as u32)];
     let all: Vec<u32> = (0..32).collect();
     for channel in rng.distinct(&all, count) {
-        words.push(tagged(geo, DATA_FLAG, channel << 16 | rng.number(14)));
+        words.push(tagged(geo, DATA_FLAG, channel << 16 | datum(rng)));
     }
     words.push(tagged(geo, FOOTER_FLAG, rng.number(16)));
     words
+}
+
+/// A datum, often 0 or the largest. By three bits more it is at times the last without bit 14 or the
+/// first with it.
+fn datum(rng: &mut Rng) -> u32 {
+    let number = rng.number(18);
+    match number >> 15 {
+        1 => 0x3fff + (number & 1),
+        _ => number & LARGEST_DATUM,
+    }
 }

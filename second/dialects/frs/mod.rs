@@ -1,9 +1,11 @@
 //! Dialect F, the FRS VME event (source document 004).
 
 mod damage;
+mod datum_edges;
 mod edges;
 mod large;
 mod layout;
+mod listing;
 mod make;
 mod marks;
 mod read;
@@ -12,7 +14,7 @@ mod spoken;
 mod two_faults;
 mod write;
 
-use super::{Dialect, Functions, Native, Rows, Special, Wanted};
+use super::{Dialect, Functions, Native, Rows, Wanted};
 use crate::generate::damage_rows::FIELD_LIMITS;
 
 pub static DIALECT: Dialect = Dialect {
@@ -34,7 +36,7 @@ pub static DIALECT: Dialect = Dialect {
         reading: &[1, 5, 6, 9, 10, 11],
         writing: &[20, 21, 22, 24],
         special: marks::SPECIAL,
-        special_writing: Special::NONE,
+        special_writing: marks::SPECIAL_WRITING,
         add_marks: marks::add,
         marks: marks::wanted,
     },

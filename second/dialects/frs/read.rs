@@ -1,8 +1,10 @@
-//! Reading of dialect F (01, "Dialect F, longword by longword" and the refusal table).
+//! Reading of dialect F (01, "Dialect F, longword by longword" and the refusal table; the datum as
+//! 02, #106, has it).
 
 use super::layout::{
-    flag, geo, kind, DATA_FLAG, EMPTY_FLAG, FOOTER_FLAG, HEADER_FLAG, PATTERN_FOOTER, PATTERN_GEO,
-    PATTERN_HEADER, PATTERN_UPPER, SCALER_FOOTER, SCALER_GEO, STAMP_HEAD, STAMP_UPPER,
+    flag, geo, kind, DATA_FLAG, EMPTY_FLAG, FOOTER_FLAG, HEADER_FLAG, LARGEST_DATUM,
+    PATTERN_FOOTER, PATTERN_GEO, PATTERN_HEADER, PATTERN_UPPER, SCALER_FOOTER, SCALER_GEO,
+    STAMP_HEAD, STAMP_UPPER,
 };
 use crate::base::{refuse, ChannelSet, Order, Refusal, Row};
 
@@ -129,7 +131,8 @@ fn put_module_words(block: &[u32], at: usize, rows: &mut Vec<Row>) -> Result<(),
     let mut channels = ChannelSet::new();
     for index in 1..last {
         let word = block[index];
-        let reserved = word & 0x00e0_c000;
+        // Bits 23-21 and bit 15.
+        let reserved = word & 0x00e0_8000;
         if geo(word) != module_geo || flag(word) != DATA_FLAG || reserved != 0 {
             return refuse(10, at + index);
         }
@@ -137,7 +140,7 @@ fn put_module_words(block: &[u32], at: usize, rows: &mut Vec<Row>) -> Result<(),
         if !channels.add(channel) {
             return refuse(11, at + index);
         }
-        rows.push([kind::VALUE, module_geo, channel, word & 0x3fff]);
+        rows.push([kind::VALUE, module_geo, channel, word & LARGEST_DATUM]);
     }
     let footer = block[last];
     if geo(footer) != module_geo || flag(footer) != FOOTER_FLAG || footer & 0x00ff_0000 != 0 {

@@ -27,6 +27,17 @@ pub fn events() -> Vec<(Refusal, Vec<u32>)> {
         (5, 7, with(&[vec![0x4200_0002, 0x4800_0000, 0x4400_0000]])),
         (5, 7, with(&[vec![0x4200_0002, 0x4000_0000, 0x4000_0000]])),
         (5, 4, [stamp(), vec![0x3200_0002, 0, 0]].concat()),
+        // Bit 15 of a datum with a GEO seen, in a block that does not fit, with a channel twice in
+        // its longword and in one before or behind it, and with a wrong footer.
+        (11, 8, after_8(&[0x4200_0001, 0x4000_8000, 0x4400_0000])),
+        (5, 7, with(&[vec![0x4200_0002, 0x4000_8000, 0x4400_0000]])),
+        (10, 9, with(&[vec![0x4200_0002, 0x4000_0000, 0x4000_8000, 0x4400_0000]])),
+        (11, 9, with(&[vec![0x4200_0003, 0x4000_0000, 0x4000_0001, 0x4001_8000, 0x4400_0000]])),
+        (10, 8, with(&[vec![0x4200_0003, 0x4001_8000, 0x4000_0000, 0x4000_0001, 0x4400_0000]])),
+        (10, 8, with(&[vec![0x4200_0001, 0x4000_8000, 0x4401_0000]])),
+        // Bit 14 is no fault (02, #106) beside a channel twice or a wrong footer.
+        (11, 9, with(&[vec![0x4200_0002, 0x4000_0000, 0x4000_4000, 0x4400_0000]])),
+        (9, 9, with(&[vec![0x4200_0001, 0x4000_4000, 0x4401_0000]])),
     ];
     events.map(|(number, place, words)| (Refusal { number, place }, words)).to_vec()
 }

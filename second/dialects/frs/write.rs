@@ -1,8 +1,8 @@
 //! Writing of dialect F: the inverse of the layouts in read.rs, with refusals 20 to 22.
 
 use super::layout::{
-    kind, tagged, DATA_FLAG, EMPTY_FLAG, FOOTER_FLAG, HEADER_FLAG, PATTERN_FOOTER, PATTERN_GEO,
-    PATTERN_HEADER, PATTERN_UPPER, SCALER_FOOTER, SCALER_GEO, STAMP_HEAD, STAMP_UPPER,
+    kind, tagged, DATA_FLAG, EMPTY_FLAG, FOOTER_FLAG, HEADER_FLAG, LARGEST_DATUM, PATTERN_FOOTER,
+    PATTERN_GEO, PATTERN_HEADER, PATTERN_UPPER, SCALER_FOOTER, SCALER_GEO, STAMP_HEAD, STAMP_UPPER,
 };
 use crate::base::{ChannelSet, Order, Refusal};
 use crate::cursor::Cursor;
@@ -76,7 +76,7 @@ fn put_module(
     let mut channels = ChannelSet::new();
     for _ in 0..count {
         let row = rows.take(kind::VALUE)?;
-        rows.require(row[1] == geo && row[2] <= 31 && row[3] <= 0x3fff)?;
+        rows.require(row[1] == geo && row[2] <= 31 && row[3] <= LARGEST_DATUM)?;
         rows.require(channels.add(row[2]))?;
         words.push(tagged(geo, DATA_FLAG, row[2] << 16 | row[3]));
     }
