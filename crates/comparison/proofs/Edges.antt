@@ -1,5 +1,5 @@
 -- Comparisons at the edges of their lists, computed: which words and rows differ, 25 and its place, and what both lent lists hold afterwards. The expected answers were
--- worked out from document 02 (#104) and document 01's rows.
+-- worked out from document 02 (#104, #106) and document 01's rows.
 -- Assumes nothing.
 use Prim.Native.Nat.{ℕ}
 use mathlib.Core.Path.{_≡_, refl}
@@ -144,6 +144,7 @@ cases =
     ∷ case 32 F Crossed (f 0x68040061) (f 0x68040062) 3 8 (Refused 25 1) (nines 3) (nines 8)
     ∷ case 32 F Crossed (f 0x6804004b) (f 0x6804404b) 3 9 (Listed 1 1) (8 ∷ 0x6804004b ∷ 0x6804404b ∷ []) (4 ∷ 22 ∷ 13 ∷ 4 ∷ 75 ∷ 22 ∷ 13 ∷ 4 ∷ 16459 ∷ [])
     ∷ case 32 F Crossed (f 0x6804404b) (f 0x6804c04b) 3 9 (Listed 1 0) (8 ∷ 0x6804404b ∷ 0x6804c04b ∷ []) (nines 9)
+    ∷ case 32 F Crossed (f 0x6804c04b) (f 0x6804404b) 3 0 (Listed 1 0) (8 ∷ 0x6804c04b ∷ 0x6804404b ∷ []) []
     ∷ case 16 F Crossed (f 0x68040061) (f 0x68040062) 3 0 (Listed 1 0) datum []
     ∷ case 32 S Crossed event changed 3 9 (Listed 1 0) word (nines 9)
     ∷ case 32 R Crossed small large 6 18 (Listed 2 0) regionWords (nines 18)

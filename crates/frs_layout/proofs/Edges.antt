@@ -49,12 +49,12 @@ noScaler more n k = vector (s more) (refused n k)
 abbrev pub geos : List ℕ
 geos = rising 0 1 5 ++ rising 7 1 25
 
--- a module with all of its channels, 100 and on, and its rows; a GEO stands in bits 31-27
+-- a module with all of its channels, its data 0x3ff0 to 0x400f, either side of bit 14, and its rows; a GEO stands in bits 31-27
 abbrev pub whole : (g : ℕ) → List ℕ
-whole g = (g * 2 ^ 27 + 0x02000020) ∷ (rising (g * 2 ^ 27 + 0x00000064) 0x00010001 32 ++ ((g * 2 ^ 27 + 0x04000009) ∷ []))
+whole g = (g * 2 ^ 27 + 0x02000020) ∷ (rising (g * 2 ^ 27 + 0x00003ff0) 0x00010001 32 ++ ((g * 2 ^ 27 + 0x04000009) ∷ []))
 
 abbrev pub wholeRows : (g : ℕ) → List Row
-wholeRows g = row 21 g 32 9 ∷ risingRows 22 g 0 100 32
+wholeRows g = row 21 g 32 9 ∷ risingRows 22 g 0 0x3ff0 32
 
 -- a module with channel 0 alone
 abbrev one : (g : ℕ) → List ℕ
@@ -168,7 +168,8 @@ abbrev fits : List Vector
 fits =
     no (0x6a000001 ∷ []) 5 7 ∷ no (0x6a000001 ∷ 0x68040061 ∷ []) 5 7 ∷ no (0x6a000001 ∷ 0 ∷ []) 5 7
     ∷ ok (module1 0x68040061 0x6c000005) (row 21 13 1 5 ∷ row 22 13 4 97 ∷ [])
-    ∷ no (0x6a000002 ∷ 0x68040061 ∷ 0x6c000005 ∷ []) 5 7 ∷ no (0x6a000002 ∷ 0 ∷ 0 ∷ []) 5 7 ∷ no (0x6a000002 ∷ 0x68040061 ∷ 0x68040061 ∷ []) 5 7
+    ∷ no (0x6a000002 ∷ 0x68040061 ∷ 0x6c000005 ∷ []) 5 7 ∷ no (0x6a000002 ∷ 0 ∷ 0 ∷ []) 5 7 ∷ no (0x6a000002 ∷ 0x68048061 ∷ 0x6c000005 ∷ []) 5 7
+    ∷ no (0x6a000002 ∷ 0x68040061 ∷ 0x68040061 ∷ []) 5 7
     ∷ ok (module2 0x68040061 0x68030060 0x6c000005) (row 21 13 2 5 ∷ row 22 13 4 97 ∷ row 22 13 3 96 ∷ [])
     ∷ no (take 33 (whole 13)) 5 7 ∷ no (take 32 (whole 13)) 5 7 ∷ no (0x46000000 ∷ take 33 (whole 13)) 5 8 ∷ no (unit ++ take 33 (whole 13)) 5 11
     ∷ no (0x6a000020 ∷ module1 0x68040061 0x6c000005) 5 7
@@ -182,24 +183,32 @@ goodData =
     ∷ ok (module1 0x68004000 0x6c000005) (row 21 13 1 5 ∷ row 22 13 0 16384 ∷ []) ∷ ok (module1 0x681f4000 0x6c000005) (row 21 13 1 5 ∷ row 22 13 31 16384 ∷ [])
     ∷ ok (module1 0x68007fff 0x6c000005) (row 21 13 1 5 ∷ row 22 13 0 32767 ∷ []) ∷ ok (module1 0x681f7fff 0x6c000005) (row 21 13 1 5 ∷ row 22 13 31 32767 ∷ [])
     ∷ ok (module2 0x6804404b 0x6803004b 0x6c000005) (row 21 13 2 5 ∷ row 22 13 4 16459 ∷ row 22 13 3 75 ∷ [])
+    ∷ ok (unit ++ module1 0x6804404b 0x6c000005) (unitRow ∷ row 21 13 1 5 ∷ row 22 13 4 16459 ∷ [])
     ∷ ok (set (whole 13) 32 0x681f4000) (set (wholeRows 13) 32 (row 22 13 31 16384))
-    ∷ ok (0x6a000020 ∷ (rising 0x68007fff 0x00010000 32 ++ (0x6c000005 ∷ []))) (row 21 13 32 5 ∷ map (λ c. row 22 13 c 32767) (rising 0 1 32)) ∷ []
+    ∷ ok (0x6a000020 ∷ (rising 0x68007fff 0x00010000 32 ++ (0x6c000005 ∷ []))) (row 21 13 32 5 ∷ map (λ c. row 22 13 c 32767) (rising 0 1 32))
+    -- each bit alone, in the channel of its number; bit 14 in every GEO
+    ∷ ok (0x6a00000f ∷ (map (λ c. 0x68000000 + c * 2 ^ 16 + 2 ^ c) (rising 0 1 15) ++ (0x6c000005 ∷ []))) (row 21 13 15 5 ∷ map (λ c. row 22 13 c (2 ^ c)) (rising 0 1 15))
+    ∷ ok (each (λ g. (g * 2 ^ 27 + 0x02000001) ∷ (g * 2 ^ 27 + 0x0004404b) ∷ (g * 2 ^ 27 + 0x04000005) ∷ []) geos) (each (λ g. row 21 g 1 5 ∷ row 22 g 4 16459 ∷ []) geos) ∷ []
 
 -- else 10. No channel twice: 11, at the second; another module's channels are its own.
 abbrev badData : List Vector
 badData =
     map (λ w. no (module1 w 0x6c000005) 10 8)
-    (0 ∷ 0x60040061 ∷ 0x70040061 ∷ 0x28040061 ∷ 0xe8040061 ∷ 0x69040061 ∷ 0x6a040061 ∷ 0x6c040061 ∷ 0x6e040061 ∷ 0x6f040061 ∷ 0x68240061 ∷ 0x68440061 ∷ 0x68840061 ∷ 0x68200000
-    ∷ 0x68008000 ∷ 0x681f8000 ∷ 0x68048000 ∷ 0x6804bfff ∷ 0x6804c061 ∷ 0x6804ffff ∷ 0x67ffffff ∷ 0x6c000005 ∷ [])
+    (0 ∷ 0x60040061 ∷ 0x6004404b ∷ 0x70040061 ∷ 0x28040061 ∷ 0xe8040061 ∷ 0x69040061 ∷ 0x6a040061 ∷ 0x6c040061 ∷ 0x6e040061 ∷ 0x6f040061 ∷ 0x68240061 ∷ 0x68440061 ∷ 0x68840061
+    ∷ 0x68200000 ∷ 0x6804bfff ∷ 0x6804c061 ∷ 0x6804ffff ∷ 0x67ffffff ∷ 0x6c000005 ∷ [])
     ++ map (λ w. no (module2 0x68050061 w 0x6c000005) 10 9)
     (0x60040061 ∷ 0x70040061 ∷ 0x69040061 ∷ 0x68240061 ∷ 0x68844061 ∷ 0x6c000005 ∷ 0x69050061 ∷ 0x60050061 ∷ 0x68058061 ∷ 0x6805c061 ∷ 0x68250061 ∷ [])
     ++ (no (module2 0x68040061 0x68040061 0x6c000005) 11 9 ∷ no (module2 0x68040061 0x68040000 0) 11 9 ∷ no (module2 0x68000000 0x68000001 0x6c000005) 11 9
     ∷ no (module2 0x681f0000 0x681f3fff 0x6c000005) 11 9 ∷ no (module2 0x6804004b 0x6804404b 0x6c000005) 11 9 ∷ no (module2 0x60040061 0x60040061 0) 10 8
+    ∷ no (module1 0x68048061 0x6c010000) 10 8 ∷ no (module1 0x68044061 0x6c010000) 9 9
     ∷ no (0x6a000003 ∷ 0x68040061 ∷ 0x68050061 ∷ 0x68040062 ∷ 0x6c000005 ∷ []) 11 10
     ∷ no (0x6a000003 ∷ 0x68040061 ∷ 0x68040061 ∷ 0 ∷ 0x6c000005 ∷ []) 11 9 ∷ no (0x6a000003 ∷ 0x68040061 ∷ 0 ∷ 0x68040061 ∷ 0x6c000005 ∷ []) 10 9
     ∷ no (set (whole 13) 32 0x68000000) 11 39 ∷ no (set (whole 13) 32 0x681e0000) 11 39 ∷ no (set (whole 13) 32 0x681f8000) 10 39
     ∷ ok (module1 0x68040061 0x6c000005 ++ (0x72000001 ∷ 0x70040061 ∷ 0x74000005 ∷ [])) (row 21 13 1 5 ∷ row 22 13 4 97 ∷ row 21 14 1 5 ∷ row 22 14 4 97 ∷ [])
     ∷ no (module1 0x68040061 0x6c000005 ++ (0x72000001 ∷ 0x68050061 ∷ 0x74000005 ∷ [])) 10 11 ∷ [])
+    -- bit 15 in every channel, and in every GEO
+    ++ map (λ c. no (module1 (0x68008000 + c * 2 ^ 16) 0x6c000005) 10 8) (rising 0 1 32)
+    ++ map (λ g. no ((g * 2 ^ 27 + 0x02000001) ∷ (g * 2 ^ 27 + 0x00048000) ∷ (g * 2 ^ 27 + 0x04000005) ∷ []) 10 8) geos
 
 -- Footer with the same GEO, flag 4, bits 23-16 zero, counter in bits 15-0: 9, after the data and before the next block
 abbrev footers : List Vector

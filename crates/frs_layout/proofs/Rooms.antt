@@ -1,4 +1,5 @@
--- Readings and writings of dialect F into buffers at the edges of their room, computed: refusals 12 and 24, and what the buffer holds afterwards. The expected answers are document 01's.
+-- Readings and writings of dialect F into buffers at the edges of their room, computed: refusals 12 and 24, and what the buffer holds afterwards. The expected
+-- answers are those of documents 01 and 02.
 -- Assumes nothing.
 use Prim.Native.Nat.{ℕ}
 use mathlib.Core.Path.{_≡_, refl}

@@ -1,4 +1,4 @@
--- Dialect F: the longwords and the rows of an event, and the rules that a valid one keeps (document 01).
+-- Dialect F: the longwords and the rows of an event, and the rules that a valid one keeps (documents 01 and 02).
 -- Assumes nothing.
 use Prim.Native.Nat.{ℕ, suc, _+_, _*_, _^_}
 use mathlib.Core.Bool.{not}

@@ -3,6 +3,8 @@
 //! be zero.
 
 use super::edges::with;
+use super::layout::{tagged, DATA_FLAG, FOOTER_FLAG, HEADER_FLAG};
+use super::make::module_geos;
 use crate::base::{Refusal, Row};
 use crate::dialects::Answered;
 
@@ -20,9 +22,9 @@ const FIRST_ROW: usize = 4;
 /// The rows of the smallest event, spoken case 10.
 pub const BEFORE: [Row; 3] = [[16, 0x17ff, 0x38e1, 0x0563], [17, 6, 1, 0], [18, 6, 0, 0x2a]];
 
-/// A value of a module of GEO 13 that has two more, in channels 4 and 5, one without bit 14 and one
-/// with it.
+/// A value of a module that has two more, in channels 4 and 5, one without bit 14 and one with it.
 struct Tried {
+    geo: u32,
     /// Among the three values of the module.
     index: usize,
     channel: u32,
@@ -31,27 +33,37 @@ struct Tried {
 
 impl Tried {
     fn words(&self) -> Vec<u32> {
-        let mut data = vec![0x6804_0061, 0x6805_404b];
-        data.insert(self.index, 0x6800_0000 | self.channel << 16 | self.datum);
-        with(&[vec![0x6a00_0003], data, vec![0x6c00_0005]])
+        let data = |lower| tagged(self.geo, DATA_FLAG, lower);
+        let mut values = vec![data(0x0004_0061), data(0x0005_404b)];
+        values.insert(self.index, data(self.channel << 16 | self.datum));
+        let [header, footer] = [(HEADER_FLAG, 3), (FOOTER_FLAG, 5)]
+            .map(|(flag, lower)| vec![tagged(self.geo, flag, lower)]);
+        with(&[header, values, footer])
     }
 
     fn rows(&self) -> Vec<Row> {
-        let mut values = vec![[22, 13, 4, 97], [22, 13, 5, 16_459]];
-        values.insert(self.index, [22, 13, self.channel, self.datum]);
-        [&BEFORE[..], &[[21, 13, 3, 5]], &values].concat()
+        let value = |channel, datum| [22, self.geo, channel, datum];
+        let mut values = vec![value(4, 97), value(5, 16_459)];
+        values.insert(self.index, value(self.channel, self.datum));
+        [&BEFORE[..], &[[21, self.geo, 3, 5]], &values].concat()
     }
 }
 
-/// Each datum in the first and in the last channel, as the first and as the last value.
+/// Each datum in the first and in the last channel of GEO 13, as the first and as the last value.
 fn tried(data: &[u32]) -> Vec<Tried> {
     let mut all = Vec::new();
     for &datum in data {
         for channel in [0, 31] {
-            all.extend([0, 2].map(|index| Tried { index, channel, datum }));
+            all.extend([0, 2].map(|index| Tried { geo: 13, index, channel, datum }));
         }
     }
     all
+}
+
+/// Bit 15 alone as the first value, in every channel and in every GEO.
+fn bit_15_everywhere() -> Vec<Tried> {
+    let places = (0..32).zip(module_geos().into_iter().cycle());
+    places.map(|(channel, geo)| Tried { geo, index: 0, channel, datum: 32_768 }).collect()
 }
 
 fn refusal(number: u32, place: usize) -> Refusal {
@@ -61,7 +73,7 @@ fn refusal(number: u32, place: usize) -> Refusal {
 pub fn answered() -> Vec<Answered<u32>> {
     let mut events = vec![thirteenth()];
     events.extend(tried(&ALLOWED).iter().map(|value| (Ok(value.rows()), value.words())));
-    events.extend(tried(&BIT_15).iter().map(|value| {
+    events.extend(tried(&BIT_15).iter().chain(&bit_15_everywhere()).map(|value| {
         let refusal = refusal(10, FIRST_WORD + value.index);
         (Err(refusal), value.words())
     }));
@@ -77,7 +89,7 @@ fn thirteenth() -> Answered<u32> {
 /// Rows with the refusal of their writing.
 pub fn writings() -> Vec<(Refusal, Vec<Row>)> {
     let refused = |value: &Tried| (refusal(22, FIRST_ROW + value.index), value.rows());
-    tried(&TOO_LARGE).iter().map(refused).collect()
+    tried(&TOO_LARGE).iter().chain(&bit_15_everywhere()).map(refused).collect()
 }
 
 /// The row elements of the accepted events and of the refused rows.

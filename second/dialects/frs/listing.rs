@@ -1,4 +1,5 @@
-//! The listing of source document 004 (its GOOREAD print): all its data have bit 14 set (02, #106).
+//! The first subevent of source document 004's listing (its GOOREAD print): all its data have bit 14
+//! set (02, #106).
 
 use super::datum_edges::BEFORE;
 use super::edges::stamp;

@@ -72,7 +72,7 @@ pub const SPECIAL_WRITING: Special = Special {
 /// By bit 14 of the first datum, where the rows have one.
 fn accepted(rows: &[Row]) -> Option<&'static str> {
     let value = rows.iter().find(|row| row[0] == kind::VALUE)?;
-    Some([ACCEPTED_CLEAR, ACCEPTED_SET][(value[3] >> 14) as usize])
+    Some([ACCEPTED_CLEAR, ACCEPTED_SET][(value[3] >> 14 & 1) as usize])
 }
 
 /// Is it 11 at a module's header whose block does not fit?
@@ -82,7 +82,7 @@ fn is_unfinished(words: &[u32], refusal: Refusal) -> bool {
     refusal.number == 11 && is_header && (rest[0] & 0x3f) as usize + 2 > rest.len()
 }
 
-/// Is it 10 at a longword that is not refused without its bit 15? The first of the stamp, whose bit 15
+/// Is it 10 at a longword that is not refused so without its bit 15? The first of the stamp, whose bit 15
 /// is no datum's, is left out.
 fn is_at_bit_15(words: &[u32], refusal: Refusal) -> bool {
     if refusal.number != 10 || refusal.place == 0 {
@@ -93,7 +93,7 @@ fn is_at_bit_15(words: &[u32], refusal: Refusal) -> bool {
     read::rows_of(&cleared, Order::Crossed) != Err(refusal)
 }
 
-/// Is it 22 at a value that is not refused with the largest datum?
+/// Is it 22 at a value that is not refused so with the largest datum?
 fn is_at_datum(elements: &[u32], refusal: Refusal) -> bool {
     if refusal.number != 22 {
         return false;

@@ -1,4 +1,5 @@
-//! Events that break two rules at once: which refusal comes first (01, "Order in F").
+//! Events that break two rules at once: which refusal comes first (01, "Order in F"). Bit 14 of a datum
+//! beside one fault is no second one (02, #106).
 
 use super::edges::{empty, module, stamp, with};
 use super::layout::{PATTERN_FOOTER, PATTERN_HEADER};
