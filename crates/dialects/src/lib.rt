@@ -1,4 +1,4 @@
-// The dialects side by side: which there are, and how wide their words are. Demands 2 and 3 and the spoken cases of documents 01 and 02 are its specs/ and proofs/.
+// The dialects side by side: which there are, and how wide their words are. Demands 2 and 3 and the spoken cases are its specs/ and proofs/.
 ghost use mathlib.Core.Path.{_≡_};
 ghost use Rattle.dialects.specs.Dialects.{width, dialectOf};
 

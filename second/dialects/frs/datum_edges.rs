@@ -1,6 +1,6 @@
-//! Data at their largest and beyond it, with the answers of reading and writing as worked out from
-//! 02, #106, and from 01's refusals: the datum is bits 14-0, and of bits 15 and 14 only bit 15 must
-//! be zero.
+//! Data at either side of bit 14, at their largest and beyond it, with the answers of reading and
+//! writing as worked out from 02, #106, and from 01's refusals: the datum is bits 14-0, and of bits 15
+//! and 14 only bit 15 must be zero.
 
 use super::edges::with;
 use super::layout::{tagged, DATA_FLAG, FOOTER_FLAG, HEADER_FLAG};
@@ -60,7 +60,8 @@ fn tried(data: &[u32]) -> Vec<Tried> {
     all
 }
 
-/// Bit 15 alone as the first value, in every channel and in every GEO.
+/// Bit 15 alone as the first value, in each channel once, the GEOs by turns. (In channels 4 and 5 the
+/// channel comes twice, too, at a later value.)
 fn bit_15_everywhere() -> Vec<Tried> {
     let places = (0..32).zip(module_geos().into_iter().cycle());
     places.map(|(channel, geo)| Tried { geo, index: 0, channel, datum: 32_768 }).collect()

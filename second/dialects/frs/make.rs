@@ -93,8 +93,8 @@ fn module(rng: &mut Rng, geo: u32, count: usize) -> Block {
     words
 }
 
-/// A datum, often 0 or the largest. Three random bits above it choose, about one time in eight, the last
-/// datum without bit 14 or the first with it.
+/// A datum, often 0 or the largest. Three random bits above it choose, about one time in eleven, the
+/// last datum without bit 14 or the first with it.
 fn datum(rng: &mut Rng) -> u32 {
     let number = rng.number(18);
     match number >> 15 {
