@@ -51,7 +51,8 @@ one g = row 21 g 1 0 ∷ row 22 g 0 0 ∷ []
 abbrev ends : List Vector
 ends =
     vector (1 ∷ []) (refused 20 0) ∷ vector (16 ∷ 0 ∷ []) (refused 20 0) ∷ vector (16 ∷ 0 ∷ 0 ∷ []) (refused 20 0)
-    ∷ vector (take 11 (flat (f []))) (refused 20 0) ∷ vector (flat (f []) ++ (20 ∷ [])) (refused 20 0) ∷ vector (flat (f []) ++ (20 ∷ 8 ∷ 0 ∷ [])) (refused 20 0) ∷ vector (replicate 5 0) (refused 20 0)
+    ∷ vector (take 11 (flat (f []))) (refused 20 0) ∷ vector (flat (f []) ++ (20 ∷ [])) (refused 20 0) ∷ vector (flat (f []) ++ (20 ∷ 8 ∷ 0 ∷ [])) (refused 20 0)
+    ∷ vector (replicate 5 0) (refused 20 0)
     ∷ vector [] (refused 21 0) ∷ vector (take 4 (flat (f []))) (refused 21 1) ∷ vector (take 8 (flat (f []))) (refused 21 2)
     ∷ ok [] []
     ∷ noScaler (row 17 6 2 0 ∷ row 18 6 0 100 ∷ []) 21 3 ∷ noScaler (row 17 6 32 0 ∷ []) 21 2 ∷ noScaler (row 17 6 32 0 ∷ risingRows 18 6 0 100 31) 21 33
@@ -79,7 +80,8 @@ scalers =
     ++ map (λ c. noAt 2 (row 18 6 c 42) 22 2) (1 ∷ 32 ∷ 0xffffffff ∷ [])
     ++ (noScaler (row 17 6 0 0 ∷ []) 22 1 ∷ noScaler (row 17 6 33 0 ∷ risingRows 18 6 0 100 33) 22 1
     ∷ okScaler (row 17 6 2 0 ∷ row 18 6 0 0x34000000 ∷ row 18 6 1 0 ∷ []) (0x32000002 ∷ 0x34000000 ∷ 0 ∷ 0x34000000 ∷ [])
-    ∷ noScaler (row 17 6 2 0 ∷ row 18 6 0 100 ∷ row 18 6 0 100 ∷ []) 22 3 ∷ noScaler (row 17 6 2 0 ∷ row 18 6 0 100 ∷ row 18 6 2 100 ∷ []) 22 3 ∷ noScaler (row 17 6 2 0 ∷ row 18 6 1 100 ∷ row 18 6 0 100 ∷ []) 22 2
+    ∷ noScaler (row 17 6 2 0 ∷ row 18 6 0 100 ∷ row 18 6 0 100 ∷ []) 22 3 ∷ noScaler (row 17 6 2 0 ∷ row 18 6 0 100 ∷ row 18 6 2 100 ∷ []) 22 3
+    ∷ noScaler (row 17 6 2 0 ∷ row 18 6 1 100 ∷ row 18 6 0 100 ∷ []) 22 2
     ∷ noScaler (row 17 6 2 0 ∷ row 18 6 0 100 ∷ unitRow ∷ []) 21 3 ∷ noScaler (row 17 6 2 0 ∷ row 18 6 0 100 ∷ row 20 8 0 0 ∷ []) 21 3
     ∷ no (row 18 6 1 43 ∷ []) 21 3 ∷ no (row 18 6 0 42 ∷ []) 21 3 ∷ noScaler (row 17 6 31 0 ∷ risingRows 18 6 0 100 32) 21 33
     ∷ noScaler (row 17 6 32 0 ∷ risingRows 18 6 0 100 33) 21 34 ∷ no (row 17 6 1 0 ∷ row 18 6 0 42 ∷ []) 21 3 ∷ no (f []) 21 3 ∷ [])
