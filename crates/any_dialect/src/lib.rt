@@ -1,5 +1,7 @@
 // Reading and writing by dialect (document 01): the one place that chooses a reader or a writer. Words of 16 bits stand in `words`, those of 32 bits in `longwords`;
 // the buffer of the other width is neither read nor written.
+#![tactic(auto)]
+
 ghost use Rattle.std.specs.Prelude.{◌≡◌, length};
 ghost use Rattle.event.specs.Outcome.{answer_of, given, overlaid};
 ghost use Rattle.event.specs.Rows.{flat, room};

@@ -1,5 +1,7 @@
 // The calls that bench/ times, in C's calling convention, each with the number of the dialect and the buffers of both widths, as in any_dialect. Each answers the count, or the
 // place of a refusal, so that the two are not told apart. A reading into no rows is the check alone: its answer is then the rows needed, the place of 12.
+#![tactic(auto)]
+
 ghost use Rattle.std.specs.Prelude.{◌≡◌, length};
 ghost use Rattle.event.specs.Outcome.{default_order, answer_of, given, overlaid, count_or_place};
 ghost use Rattle.event.specs.Rows.{flat, room};

@@ -1,4 +1,6 @@
 // Two events of one dialect laid side by side (document 02, #104): the differing words, the differing rows, and the tail of the longer event.
+#![tactic(auto)]
+
 mod entries;
 mod rows;
 mod words16;

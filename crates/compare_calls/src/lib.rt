@@ -1,5 +1,7 @@
 // The comparison in C's calling convention, with the numbers of the dialect and the stamp order: what second/ compares with the second reader. The answer is three
 // numbers in a lent buffer, as `numbers_of` has them; they are put where there is room for all three.
+#![tactic(auto)]
+
 ghost use Rattle.std.specs.Prelude.{◌≡◌, length, [], ◌∷◌, ◌≤◌};
 ghost use Rattle.event.specs.Outcome.{order_of, overlaid};
 ghost use Rattle.dialects.specs.Dialects.{dialect_of};

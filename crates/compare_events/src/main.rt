@@ -1,5 +1,7 @@
 // Compares the events of the first two hexadecimal lines of standard input (document 02, #104), with the default stamp order, and prints what differs. What follows
 // the second line is not waited for. Where a read fails nothing is printed.
+#![tactic(auto)]
+
 mod input;
 mod lines;
 mod side16;

@@ -1,4 +1,6 @@
 // The dialects side by side: which there are, and how wide their words are. Demands 2 and 3 and the spoken cases are its specs/ and proofs/.
+#![tactic(auto)]
+
 ghost use Rattle.std.specs.Prelude.{◌≡◌};
 ghost use Rattle.dialects.specs.Dialects.{width, dialect_of};
 

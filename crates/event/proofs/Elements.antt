@@ -5,17 +5,17 @@ use native.Mathlib.Omega.{arith}
 use mathlib.Core.Path.{◌≡◌, refl, ap}
 use mathlib.Core.Bool.{Bool, true, false, ◌&&◌}
 use mathlib.Core.List.{List, [], ◌∷◌, ◌++◌, map, append_assoc}
-use lib.Dec.{T, leb, leb→le, eqb→eq, eqb_refl}
+use lib.Dec.{T, eqb, leb, leb→le, eqb→eq, eqb_refl}
 use lib.ListN.{length, length-append}
 use borrow.Author.Tests.{le-leb}
-use Rattle.event.specs.Parser.{Parser, Test, Passed, prints, Goods, each, All, alone, several}
+use Rattle.event.specs.Parser.{Parser, Test, test, Passed, prints, Goods, each, All, alone, several}
 use Rattle.event.specs.Words.{layout, word_alone, exactly, any_word, between, below_checks, word_below}
 use Rattle.event.proofs.Codes.{Codes, any, At, same, codes_element}
 use Rattle.event.proofs.Many.{codes_many_at}
 
 pub codes_layout : {A : Type 0} (n : ℕ) (fields : ℕ → A) (print : A → ℕ) (checks : A → List Test)
     → ((a : A) → Passed (checks a) → fields (print a) ≡ a) → Codes any (layout n fields print checks) (λ a. print a ∷ []) (λ a. Passed (checks a))
-codes_layout n fields print checks back = codes_element n fields _ print (λ a. Passed (checks a))
+codes_layout n fields print checks back = codes_element n fields (λ w. test n (eqb w (print (fields w))) ∷ checks (fields w)) print (λ a. Passed (checks a))
     (λ w p. (p.1, eqb→eq w (print (fields w)) p.0))
     (λ a g. (back a g, rw (back a g) (eqb_refl (print a), g)))
 

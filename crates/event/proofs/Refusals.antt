@@ -92,18 +92,18 @@ module _ {E : Type 0} {number : ℕ → Bool} {end : ℕ} {past : ℕ → ℕ} w
       choice i limit e h false = (t, omega arith)
 
   -- an element
-  pub keeps_element : {A : Type 0} {n : ℕ} {fields : E → A} {tests : E → List Test} {s : List E} → There number past n tests s → Keeps number end past s (element n fields tests) (λ r. suc (length r) ≡ length s)
-  keeps_element {s = []} c = record { run = λ i limit e h. (c.0, omega arith) }
-  keeps_element {fields = fields} {tests = tests} {s = x ∷ r} c = record { run = λ i limit e h. go i limit e (omega arith) (tests x) (c.1 x) }
+  pub keeps_element : {A : Type 0} {n : ℕ} (fields : E → A) (tests : E → List Test) {s : List E} → There number past n tests s → Keeps number end past s (element n fields tests) (λ r. suc (length r) ≡ length s)
+  keeps_element fields tests {s = []} c = record { run = λ i limit e h. (c.0, omega arith) }
+  keeps_element fields tests {s = x ∷ r} c = record { run = λ i limit e h. go i limit e (omega arith) (tests x) (c.1 x) }
     where
       go : (i limit : ℕ) → i + suc (length r) ≡ limit → i < end → (ts : List Test) → Numbered number ts → Fair number end past limit (λ t. suc (length t) ≡ suc (length r)) (judge ts (fields x) i r)
       go i limit e h [] u = (omega arith, refl)
       go i limit e h (t ∷ ts) u = either (Fair number end past limit _) t.holds (go i limit e h ts u.1) (u.0, omega arith)
 
-  module _ {A B : Type 0} {n : ℕ} {fields : E → A} {tests : E → List Test} {s : List E} {Left : List E → Type 0} (c : There number past n tests s) where
+  module _ {A B : Type 0} {n : ℕ} (fields : E → A) (tests : E → List Test) {s : List E} {Left : List E → Type 0} (c : There number past n tests s) where
     -- an element and what follows it
     pub keeps_next : {q : A → Parser E B} → ((a : A) (r : List E) → suc (length r) ≡ length s → Keeps number end past r (q a) Left) → Keeps number end past s (element n fields tests >>= q) Left
-    keeps_next = keeps_bind (keeps_element c)
+    keeps_next = keeps_bind (keeps_element fields tests c)
 
     -- the same, where what follows uses the element's place
     pub keeps_here : {q : ℕ → A → Parser E B} → ((k : ℕ) → k < end → (a : A) (r : List E) → suc (length r) ≡ length s → Keeps number end past r (q k a) Left)

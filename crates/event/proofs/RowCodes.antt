@@ -13,7 +13,7 @@ use Rattle.event.specs.declared.Row.{Row}
 use Rattle.event.specs.Parser.{Test, Passed}
 use Rattle.event.specs.Outcome.{Outcome, done}
 use Rattle.event.specs.Rows.{flat}
-use Rattle.event.specs.Writing.{is_same_row, row_with, rows_in, from_elements}
+use Rattle.event.specs.Writing.{row_tests, is_same_row, row_with, rows_in, from_elements}
 use Rattle.event.proofs.Codes.{Codes, any, codes_element}
 use Rattle.event.proofs.Elements.{both}
 use Rattle.event.proofs.Whole.{passed}
@@ -42,7 +42,7 @@ row_refl r = rw (fields_same r r (refl, refl, refl, refl)) tt
 pub codes_row_at : {A : Type 0} (stands : Row → Bool) (fields : Row → A) (print : A → Row) (checks : A → List Test)
     → ((a : A) → Passed (checks a) → T (stands (print a))) → ((a : A) → Passed (checks a) → fields (print a) ≡ a)
     → Codes any (row_with stands fields print checks) (λ a. print a ∷ []) (λ a. Passed (checks a))
-codes_row_at stands fields print checks may back = codes_element 21 fields _ print (λ a. Passed (checks a))
+codes_row_at stands fields print checks may back = codes_element 21 fields (row_tests stands fields print checks) print (λ a. Passed (checks a))
     (λ r p. (p.1.1, same_row r (print (fields r)) p.1.0))
     (λ a g. (back a g, rw (back a g) (may a g, (row_refl (print a), g))))
 

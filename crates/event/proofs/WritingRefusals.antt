@@ -34,8 +34,8 @@ Writes count s p = Keeps of_row count past s p (λ r. length r ≤ length s)
 abbrev pub Takes : {A : Type 0} → ℕ → List Row → Parser Row A → Type 0
 Takes count s p = Keeps of_row count past s p (λ r. length r < length s)
 
-pub takes_row : {A : Type 0} {count n : ℕ} {fields : Row → A} {tests : Row → List Test} {s : List Row} → There of_row past n tests s → Takes count s (element n fields tests)
-takes_row c = keeps_left (keeps_element c) (λ r e. omega arith)
+pub takes_row : {A : Type 0} {count n : ℕ} (fields : Row → A) (tests : Row → List Test) {s : List Row} → There of_row past n tests s → Takes count s (element n fields tests)
+takes_row fields tests c = keeps_left (keeps_element fields tests c) (λ r e. omega arith)
 
 pub writes_many : {St A : Type 0} {count : ℕ} (item : St → Parser Row A) (next : St → A → St) (stop : List Row → Bool) → T (stop [])
     → ((st : St) (s : List Row) → Takes count s (item st)) → (st : St) (s : List Row) → Writes count s (many item next stop st)

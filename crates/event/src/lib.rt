@@ -1,4 +1,6 @@
 // What every dialect shares: the rows of an event, the stamp order, the answer of a reading or a writing.
+#![tactic(auto)]
+
 pub mod channels;
 pub mod kind;
 pub mod refusal;

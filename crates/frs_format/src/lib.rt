@@ -1,4 +1,5 @@
 // The numbers of dialect F that reading and writing share (document 01, 'Dialect F').
+#![tactic(auto)]
 
 // An event has from 7 to 1,062 longwords (document 01, 'Dialect F').
 pub const SMALLEST_EVENT: usize = 7;

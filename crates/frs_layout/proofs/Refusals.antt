@@ -39,7 +39,7 @@ module _ (bound : ℕ) where
   Fills s p = Reads s p (λ r. length r ≡ 0)
 
   reads_stamp : (s : List ℕ) → 4 ≤ length s → Reads s stamp (λ r. length r + 4 ≡ length s)
-  reads_stamp s l = keeps_next (omega arith) λ u r e. keeps_next (omega arith) λ a r₁ e₁. keeps_next (omega arith) λ b r₂ e₂. keeps_next (omega arith) λ c r₃ e₃. keeps_give (omega arith)
+  reads_stamp s l = keeps_next _ _ (omega arith) λ u r e. keeps_next _ _ (omega arith) λ a r₁ e₁. keeps_next _ _ (omega arith) λ b r₂ e₂. keeps_next _ _ (omega arith) λ c r₃ e₃. keeps_give (omega arith)
 
   -- a block with a count of n: its values fill the count, and the footer is one longword
   reads_block_of : {A B : Type 0} {s : List ℕ} (p n : ℕ) (values : Parser ℕ A) (footer : A → Parser ℕ B) → p < bound → ((s : List ℕ) → Fills s values)
@@ -50,25 +50,25 @@ module _ (bound : ℕ) where
       (λ r z. omega arith)
 
   fills_scalers : (s : List ℕ) → Fills s scaler_values
-  fills_scalers = fills_words (λ u. scaler_value) alone (λ u s l. keeps_element (omega arith)) tt
+  fills_scalers = fills_words (λ u. scaler_value) alone (λ u s l. keeps_element _ _ (omega arith)) tt
 
   reads_scaler : (s : List ℕ) → 1 ≤ length s → Reads s scaler (λ r. length r < length s)
-  reads_scaler s l = keeps_here (omega arith) λ p b n r e. keeps_left
-      (reads_block_of p n scaler_values scaler_footer b fills_scalers (λ vs s l. keeps_next (omega arith) λ u r e. keeps_give (omega arith)))
+  reads_scaler s l = keeps_here _ _ (omega arith) λ p b n r e. keeps_left
+      (reads_block_of p n scaler_values scaler_footer b fills_scalers (λ vs s l. keeps_next _ _ (omega arith) λ u r e. keeps_give (omega arith)))
       (λ r₁ l₁. omega arith)
 
   reads_pattern : (s : List ℕ) → 1 ≤ length s → Reads s pattern_unit (λ r. length r ≤ length s)
-  reads_pattern s l = keeps_here (omega arith) λ p b u r e. keeps_left
-      (keeps_within 5 p 3 pattern_body (Unit {0}) tt b λ s l. keeps_next (omega arith) λ a r e. keeps_next (omega arith) λ m r₁ e₁. keeps_next (omega arith) λ u r₂ e₂. keeps_give (omega arith, tt))
+  reads_pattern s l = keeps_here _ _ (omega arith) λ p b u r e. keeps_left
+      (keeps_within 5 p 3 pattern_body (Unit {0}) tt b λ s l. keeps_next _ _ (omega arith) λ a r e. keeps_next _ _ (omega arith) λ m r₁ e₁. keeps_next _ _ (omega arith) λ u r₂ e₂. keeps_give (omega arith, tt))
       (λ r₁ z. omega arith)
 
   reads_body : (p : ℕ) (h : Header) (s : List ℕ) → p < bound → Reads s (body p h) (λ r. length r ≤ length s)
   reads_body p (empty_header g) s b = keeps_give (omega arith)
-  reads_body p (data_header g n) s b = reads_block_of p n (values g) (footer g) b (fills_words (value g) channels (λ seen s l. keeps_element (omega arith)) [])
-      (λ vs s l. keeps_next (omega arith) λ c r e. keeps_give (omega arith))
+  reads_body p (data_header g n) s b = reads_block_of p n (values g) (footer g) b (fills_words (value g) channels (λ seen s l. keeps_element _ _ (omega arith)) [])
+      (λ vs s l. keeps_next _ _ (omega arith) λ c r e. keeps_give (omega arith))
 
   reads_module : (seen s : List ℕ) → 1 ≤ length s → Reads s (one_module seen) (λ r. length r < length s)
-  reads_module seen s l = keeps_here (tt, (λ w. (tt, header_numbers seen (header_of w))), omega arith) λ p b h r e. keeps_left (reads_body p h r b) (λ r₁ z. omega arith)
+  reads_module seen s l = keeps_here _ _ (tt, (λ w. (tt, header_numbers seen (header_of w))), omega arith) λ p b h r e. keeps_left (reads_body p h r b) (λ r₁ z. omega arith)
 
   fills_event : (s : List ℕ) → 0 < bound → Fills s (event_parser (length s))
   fills_event s b = keeps_bind (keeps_require (between smallest_event largest_event (length s)) 1 0 tt b) λ u r e.

@@ -23,20 +23,20 @@ header_numbers seen (data_header g n c) = omega arith
 
 module _ {count : ℕ} where
   takes_scaler : (s : List Row) → Takes count s scaler
-  takes_scaler s = keeps_next (omega arith) λ n r e. keeps_left (writes_times scaler_at next_index (λ i s. takes_row (omega arith)) n 0 r) (λ r₁ l. omega arith)
+  takes_scaler s = keeps_next _ _ (omega arith) λ n r e. keeps_left (writes_times scaler_at next_index (λ i s. takes_row _ _ (omega arith)) n 0 r) (λ r₁ l. omega arith)
 
   writes_pattern : (s : List Row) → Writes count s (optionally at_pattern pattern_unit)
-  writes_pattern s = keeps_optionally at_pattern pattern_unit (λ t. keeps_left (takes_row (omega arith)) (λ r l. omega arith)) (λ t. omega arith)
+  writes_pattern s = keeps_optionally at_pattern pattern_unit (λ t. keeps_left (takes_row _ _ (omega arith)) (λ r l. omega arith)) (λ t. omega arith)
 
   writes_body : (h : Header) (s : List Row) → Writes count s (body h)
   writes_body (empty_header g) s = keeps_give (omega arith)
-  writes_body (data_header g n c) s = keeps_map _ (writes_times (value g) channels (λ seen s. takes_row (omega arith)) n [] s)
+  writes_body (data_header g n c) s = keeps_map _ (writes_times (value g) channels (λ seen s. takes_row _ _ (omega arith)) n [] s)
 
   takes_module : (seen : List ℕ) (s : List Row) → Takes count s (one_module seen)
-  takes_module seen s = keeps_next (tt, (λ r. (tt, (tt, header_numbers seen (header_of r)))), omega arith) λ h r e. keeps_left (writes_body h r) (λ r₁ l. omega arith)
+  takes_module seen s = keeps_next _ _ (tt, (λ r. (tt, (tt, header_numbers seen (header_of r)))), omega arith) λ h r e. keeps_left (writes_body h r) (λ r₁ l. omega arith)
 
   writes_event : (s : List Row) → Writes count s (event_rows_up_to ended)
-  writes_event s = keeps_next (omega arith) λ st r e. keeps_bind (takes_scaler r) λ vs r₁ l₁.
+  writes_event s = keeps_next _ _ (omega arith) λ st r e. keeps_bind (takes_scaler r) λ vs r₁ l₁.
       keeps_bind (writes_pattern r₁) λ p r₂ l₂. keeps_left
       (keeps_map _ (writes_many one_module geos ended tt takes_module [] r₂))
       (λ r₃ l₃. omega arith)

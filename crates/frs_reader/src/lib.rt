@@ -1,4 +1,6 @@
 // Reads one event of dialect F, the FRS VME event (document 01), into rows.
+#![tactic(auto)]
+
 mod begin;
 mod longword;
 mod module;

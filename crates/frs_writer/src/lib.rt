@@ -1,4 +1,6 @@
 // Writes one event of dialect F, the FRS VME event (document 01), from its rows.
+#![tactic(auto)]
+
 mod begin;
 mod fault;
 mod longword;

@@ -1,4 +1,6 @@
 // Hexadecimal lines (document 01, 'The hexadecimal lines'): a line's characters as words; numbers and texts as characters in a lent buffer.
+#![tactic(auto)]
+
 mod line;
 mod text;
 

@@ -1,4 +1,6 @@
 // The check of dialect S for an analysis written in C (document 01, 'A host analysis written in C may call the check'). include/s800.h declares it.
+#![tactic(auto)]
+
 ghost use Rattle.std.specs.Prelude.{◌+◌, ◌*◌, ◌/◌, ◌≤◌, ◌≡◌, length};
 ghost use Rattle.event.specs.Outcome.{answer_of, overlaid};
 ghost use Rattle.s800_layout.specs.Reading.{reading};

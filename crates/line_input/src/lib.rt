@@ -1,3 +1,5 @@
+#![tactic(auto)]
+
 #[derive(Drop)]
 pub struct Refilled {
     pub end: usize,

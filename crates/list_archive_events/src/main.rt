@@ -1,4 +1,6 @@
 // Lists as list_events does, with the crossed stamp order, whatever the default is: the archive's reprocessing keeps its rows (document 02, #105).
+#![tactic(auto)]
+
 ghost use Rattle.std.specs.Prelude.{◌≡◌, take};
 ghost use Rattle.event.specs.declared.StampOrder.TheVariants.{Crossed};
 ghost use Rattle.list_input.specs.Turns.{ListedByTurns};

@@ -1,4 +1,6 @@
 // Lists each hexadecimal line of standard input (document 01, 'The hexadecimal lines'), with the default stamp order.
+#![tactic(auto)]
+
 ghost use Rattle.std.specs.Prelude.{◌≡◌, take};
 ghost use Rattle.event.specs.Outcome.{default_order};
 ghost use Rattle.list_input.specs.Turns.{ListedByTurns};

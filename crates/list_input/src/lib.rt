@@ -1,6 +1,8 @@
 // What the line programs share: lists the hexadecimal lines of standard input (document 01, 'The hexadecimal lines') on standard output, in the stamp order that a
 // program gives. A line is listed as soon as it was read, and what is listed is written before more is waited for. A write that fails ends the listing at once. A
 // read that fails ends it without a last line.
+#![tactic(auto)]
+
 mod lines;
 mod streams;
 

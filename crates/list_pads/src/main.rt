@@ -1,6 +1,8 @@
 // Lists the pad of each pair of channel and connector (document 02, #102): connectors 0 to 3, within each channels 0 to 63, a line
 // `CHANNEL CONNECTOR PAD` each, in hexadecimal. The expected output comes from the independent second reader (`second/`). A write that fails
 // ends the program, and its exit status does not tell: fewer than 256 lines are not the whole listing.
+#![tactic(auto)]
+
 ghost use Rattle.std.specs.Prelude.{◌+◌, ◌≤◌, ◌≡◌, length};
 ghost use Rattle.hex_line.specs.Text.{Placed};
 ghost use Rattle.list_pads.specs.Pads.{pair_text, connector_text, pads_text};

@@ -1,4 +1,6 @@
 // The listing of hexadecimal lines (document 01, 'The hexadecimal lines'): the rows of a line, what is listed as text, and what comes next of an input.
+#![tactic(auto)]
+
 mod input;
 mod rows;
 mod text;

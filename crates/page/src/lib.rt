@@ -1,5 +1,7 @@
 // The calls of a page of recent events (document 02, #107): the last 64 accepted events of dialect S, each of at most 1,024 words, in lent room. The page itself
 // goes by value. A refusal leaves page and room as they were.
+#![tactic(auto)]
+
 mod hits;
 mod slots;
 

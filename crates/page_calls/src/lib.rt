@@ -1,5 +1,7 @@
 // The calls of the page in C's calling convention: what second/ compares with the second reader. A page is 66 numbers in a lent buffer, its first slot, its events
 // and the 64 lengths; an answer is two, as document 02 has them. What is put is put at the front of the buffer lent for it, where there is room for all of it.
+#![tactic(auto)]
+
 mod numbers;
 
 ghost use Rattle.std.specs.Prelude.{◌≡◌, length};

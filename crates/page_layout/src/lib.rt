@@ -1,4 +1,6 @@
 // A page of recent events (document 02, #107), as definitions.
+#![tactic(auto)]
+
 use event::Answer;
 
 // `count` events, oldest first in slots first, first + 1, .. round the 64; `lengths` has the number of words of the event in each slot. Slot s of the room is its

@@ -1,4 +1,6 @@
 // The text of a page (document 02, #107): its head, a picture of each connector, all counts, its last line.
+#![tactic(auto)]
+
 mod counts;
 mod lines;
 mod picture;

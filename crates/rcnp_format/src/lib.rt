@@ -1,4 +1,6 @@
 // What reading and writing dialect R share (document 02, #101): the number of words, the ids of regions and the sizes that they allow.
+#![tactic(auto)]
+
 ghost use Rattle.std.specs.Prelude.{◌≡◌, eqb};
 ghost use Rattle.rcnp_layout.specs.Event.{id_of, form_of};
 ghost use Rattle.rcnp_layout.specs.Layout.{allowed_size};

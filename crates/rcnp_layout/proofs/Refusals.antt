@@ -47,17 +47,17 @@ module _ (bound : ℕ) where
       (λ r z. omega arith)
 
   fills_one : (n : ℕ) (s : List ℕ) → T (eqb n 1) → length s ≡ n → Fills s word
-  fills_one n s a l = let g = eqb→eq n 1 a in keeps_left (keeps_element (omega arith)) (λ r e. omega arith)
+  fills_one n s a l = let g = eqb→eq n 1 a in keeps_left (keeps_element _ _ (omega arith)) (λ r e. omega arith)
 
   fills_content : (f : Form) (n : ℕ) (s : List ℕ) → T (allowed_size f n) → length s ≡ n → Fills s (content f)
   fills_content input_register n s a l = fills_one n s a l
   fills_content scaler n s a l = keeps_many (λ u. scaler_value) alone (λ r. length r % 2 ≡ 0)
-      (λ u s g l. keeps_next (omega arith) λ low r e. keeps_next (omega arith) λ high r₁ e₁. keeps_give (omega arith)) tt s (omega (arith, eqb→eq (n % 2) 0 a))
-  fills_content vdc n s a l = fills_words vdc_value begins (λ begun s l. keeps_element (omega arith)) false s
-  fills_content (opaque k) n s a l = fills_words (λ u. word) alone (λ u s l. keeps_element (omega arith)) tt s
+      (λ u s g l. keeps_next _ _ (omega arith) λ low r e. keeps_next _ _ (omega arith) λ high r₁ e₁. keeps_give (omega arith)) tt s (omega (arith, eqb→eq (n % 2) 0 a))
+  fills_content vdc n s a l = fills_words vdc_value begins (λ begun s l. keeps_element _ _ (omega arith)) false s
+  fills_content (opaque k) n s a l = fills_words (λ u. word) alone (λ u s l. keeps_element _ _ (omega arith)) tt s
 
   reads_region : (s : List ℕ) → Reads s region (λ r. length r < length s)
-  reads_region s = keeps_here (omega arith) λ p b h r e. keeps_left
+  reads_region s = keeps_here _ _ (omega arith) λ p b h r e. keeps_left
       (reads_filling p h.size (allowed_size h.form h.size) (region_content h.form) b (λ s a l. keeps_map _ (fills_content h.form h.size s a l)))
       (λ r₁ l. omega arith)
 
@@ -67,7 +67,7 @@ module _ (bound : ℕ) where
       (λ r h. h.1)
 
   reads_sum : (s : List ℕ) → Reads s sum_region (λ r. length r < length s)
-  reads_sum s = keeps_here (omega arith) λ p b n r e. keeps_left
+  reads_sum s = keeps_here _ _ (omega arith) λ p b n r e. keeps_left
       (reads_filling p n (eqb n 1) word b (fills_one n))
       (λ r₁ l. omega arith)
 

@@ -19,16 +19,16 @@ use Rattle.rcnp_layout.proofs.Event.{keeps_event}
 
 module _ {count : ℕ} where
   writes_content : (f : Form) (n : ℕ) (s : List Row) → Writes count s (content f n)
-  writes_content input_register n s = keeps_left (takes_row (omega arith)) (λ r l. omega arith)
-  writes_content scaler n s = writes_times scaler_at next_index (λ i s. takes_row (omega arith)) (n / 2) 0 s
-  writes_content vdc n s = writes_times vdc_value begins (λ begun s. takes_row (omega arith)) n false s
-  writes_content (opaque k) n s = writes_times (λ u. word) alone (λ u s. takes_row (omega arith)) n tt s
+  writes_content input_register n s = keeps_left (takes_row _ _ (omega arith)) (λ r l. omega arith)
+  writes_content scaler n s = writes_times scaler_at next_index (λ i s. takes_row _ _ (omega arith)) (n / 2) 0 s
+  writes_content vdc n s = writes_times vdc_value begins (λ begun s. takes_row _ _ (omega arith)) n false s
+  writes_content (opaque k) n s = writes_times (λ u. word) alone (λ u s. takes_row _ _ (omega arith)) n tt s
 
   takes_region : (s : List Row) → Takes count s region
-  takes_region s = keeps_next (omega arith) λ h r e. keeps_left (keeps_map _ (writes_content h.form h.size r)) (λ r₁ l. omega arith)
+  takes_region s = keeps_next _ _ (omega arith) λ h r e. keeps_left (keeps_map _ (writes_content h.form h.size r)) (λ r₁ l. omega arith)
 
   takes_sum : (s : List Row) → Takes count s sum_region
-  takes_sum s = keeps_next (omega arith) λ u r e. keeps_left (takes_row (omega arith)) (λ r₁ l. omega arith)
+  takes_sum s = keeps_next _ _ (omega arith) λ u r e. keeps_left (takes_row _ _ (omega arith)) (λ r₁ l. omega arith)
 
 -- the sum's row is one of them
 writes_event : (s : List Row) → Writes (length s) s (lastly summed 22 (parts_with (finish 21)))

@@ -1,4 +1,6 @@
 // Reads one event of dialect R, the RCNP regions (document 02, #101), into rows.
+#![tactic(auto)]
+
 mod content;
 mod region;
 mod scan;

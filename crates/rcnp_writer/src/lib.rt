@@ -1,4 +1,6 @@
 // Writes one event of dialect R, RCNP regions (document 02, #101), from its rows.
+#![tactic(auto)]
+
 mod content;
 mod fault;
 mod fill;

@@ -1,5 +1,7 @@
 // Reading and writing one after the other, on lent buffers: each gives back what the other was given, whatever the dialect. Words of 16 bits stand in one buffer, those of
 // 32 bits in the other, as in any_dialect.
+#![tactic(auto)]
+
 ghost use Rattle.std.specs.Prelude.{◌≡◌, length};
 ghost use Rattle.event.specs.Outcome.{answer_of, given, overlaid};
 ghost use Rattle.event.specs.Rows.{flat, room};

@@ -2,6 +2,8 @@
 // the lent elements afterwards. The vectors and the expected output come from the independent second reader (`second/`).
 // At a malformed or incomplete vector it prints `malformed` and ends. It reads at most 2 MiB; in a vector at most 16,800 elements
 // go in, and at most 16,800 are lent.
+#![tactic(auto)]
+
 mod calls;
 mod lines;
 mod output;

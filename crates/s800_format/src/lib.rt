@@ -1,4 +1,6 @@
 // What reading and writing dialect S share (document 01, 'Dialect S'): the tags, the formats of channel words, the pad of a channel and a connector.
+#![tactic(auto)]
+
 pub mod tag;
 
 ghost use Rattle.std.specs.Prelude.{◌≡◌};

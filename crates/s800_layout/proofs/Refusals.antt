@@ -36,7 +36,7 @@ module _ (bound : ℕ) where
       → ((s : List ℕ) → 1 ≤ length s → Reads s tagWord (λ r. suc (length r) ≡ length s))
       → ((f : F) (p n : ℕ) (s : List ℕ) → T (allowed f n) → p < bound → 2 + length s ≡ n → Fills s (content f p n))
       → (s : List ℕ) → 1 ≤ length s → Reads s (packet_of tagWord allowed content) (λ r. (n : ℕ) × (length r + n ≡ length s) × (2 ≤ n) × ((f : F) × T (allowed f n)))
-  reads_packet_of {F} tagWord allowed content c d s l = keeps_here (omega arith) λ p b n r e. keeps_bind (keeps_require (leb 2 n) 5 p tt b) λ u r₁ e₁.
+  reads_packet_of {F} tagWord allowed content c d s l = keeps_here _ _ (omega arith) λ p b n r e. keeps_bind (keeps_require (leb 2 n) 5 p tt b) λ u r₁ e₁.
       let g = leb→le 2 n e₁.0 in
       keeps_left (keeps_within 5 p (n - 1) (body_of tagWord allowed content p n) ((f : F) × T (allowed f n)) tt b λ s h.
       keeps_bind (c s (omega arith)) λ f r₂ e₂. keeps_bind (keeps_require (allowed f n) 7 p tt b) λ u r₃ e₃.
@@ -46,69 +46,69 @@ module _ (bound : ℕ) where
   -- an inner packet of length n: its content fills it
   reads_inner : {A : Type 0} {s : List ℕ} (n t : ℕ) (p : Parser ℕ A) → 2 ≤ n → 1 ≤ length s → ((r : List ℕ) → 2 + length r ≡ n → Fills r p)
       → Reads s (inner n t p) (λ r. length r + n ≡ length s)
-  reads_inner n t p g l c = keeps_here (omega arith) λ k b u r e. keeps_left
-      (keeps_within 9 k (n - 1) (exactly 9 t >> p) (Unit {0}) tt b λ s h. keeps_next (omega arith) λ u r₁ e₁. keeps_left (c r₁ (omega arith)) (λ r₂ z. (z, tt)))
+  reads_inner n t p g l c = keeps_here _ _ (omega arith) λ k b u r e. keeps_left
+      (keeps_within 9 k (n - 1) (exactly 9 t >> p) (Unit {0}) tt b λ s h. keeps_next _ _ (omega arith) λ u r₁ e₁. keeps_left (c r₁ (omega arith)) (λ r₂ z. (z, tt)))
       (λ r₃ z. omega arith)
 
   fills_channels : (f : ChannelFormat) (s : List ℕ) → Fills s (channel_words f)
-  fills_channels f = fills_words (datum f) channels (λ seen s l. keeps_element (omega arith)) []
+  fills_channels f = fills_words (datum f) channels (λ seen s l. keeps_element _ _ (omega arith)) []
 
   reads_group : (s : List ℕ) → 1 ≤ length s → Reads s group (λ r. length r < length s)
-  reads_group s l = keeps_here (omega arith) λ p b h r e. keeps_bind
-      (keeps_many_at sample_datum above is_at_head tt (λ r. length r < length s) (λ least s g l. keeps_left (keeps_element (omega arith)) (λ r e. (omega arith, omega arith))) 0 r (omega arith))
+  reads_group s l = keeps_here _ _ (omega arith) λ p b h r e. keeps_bind
+      (keeps_many_at sample_datum above is_at_head tt (λ r. length r < length s) (λ least s g l. keeps_left (keeps_element _ _ (omega arith)) (λ r e. (omega arith, omega arith))) 0 r (omega arith))
       (λ xs r₁ g. keeps_bind (keeps_require (has_data (record { head = h; energies = xs })) 10 p tt b) (λ u r₂ g₂. keeps_give (omega arith)))
 
   fills_samples : (s : List ℕ) → 1 ≤ length s → Fills s samples
-  fills_samples s l = keeps_next (omega arith) λ t r e. keeps_map _
+  fills_samples s l = keeps_next _ _ (omega arith) λ t r e. keeps_map _
       (keeps_many (λ u. group) alone (λ r. Unit {0}) (λ u s g l. keeps_left (reads_group s l) (λ r e. (e, tt))) tt r tt)
 
   fills_anode : (s : List ℕ) → length s ≡ 2 → Fills s anode
-  fills_anode s l = keeps_next (omega arith) λ a r e. keeps_next (omega arith) λ t r₁ e₁. keeps_give (omega arith)
+  fills_anode s l = keeps_next _ _ (omega arith) λ a r e. keeps_next _ _ (omega arith) λ t r₁ e₁. keeps_give (omega arith)
 
   fills_registers : (s : List ℕ) → length s ≡ 3 → Fills s registers
-  fills_registers s l = keeps_next (omega arith) λ a r e. keeps_next (omega arith) λ b r₁ e₁. keeps_next (omega arith) λ t r₂ e₂. keeps_give (omega arith)
+  fills_registers s l = keeps_next _ _ (omega arith) λ a r e. keeps_next _ _ (omega arith) λ b r₁ e₁. keeps_next _ _ (omega arith) λ t r₂ e₂. keeps_give (omega arith)
 
   fills_stamp : (s : List ℕ) → length s ≡ 4 → Fills s stamp_content
-  fills_stamp s l = keeps_next (omega arith) λ a r e. keeps_next (omega arith) λ b r₁ e₁. keeps_next (omega arith) λ c r₂ e₂. keeps_next (omega arith) λ d r₃ e₃. keeps_give (omega arith)
+  fills_stamp s l = keeps_next _ _ (omega arith) λ a r e. keeps_next _ _ (omega arith) λ b r₁ e₁. keeps_next _ _ (omega arith) λ c r₂ e₂. keeps_next _ _ (omega arith) λ d r₃ e₃. keeps_give (omega arith)
 
   fills_number : (s : List ℕ) → length s ≡ 3 → Fills s number_content
-  fills_number s l = keeps_next (omega arith) λ a r e. keeps_next (omega arith) λ b r₁ e₁. keeps_next (omega arith) λ c r₂ e₂. keeps_give (omega arith)
+  fills_number s l = keeps_next _ _ (omega arith) λ a r e. keeps_next _ _ (omega arith) λ b r₁ e₁. keeps_next _ _ (omega arith) λ c r₂ e₂. keeps_give (omega arith)
 
   -- the content of a packet whose length n is allowed
   fills_content : (f : Form) (p n : ℕ) (s : List ℕ) → T (allowed_length f n) → p < bound → length s ≡ n - 2 → Fills s (content f p n)
-  fills_content trigger p n s a b l = keeps_next (omega (arith, bounds 3 7 n a)) λ w r e. keeps_map _ (fills_channels trigger_time r)
+  fills_content trigger p n s a b l = keeps_next _ _ (omega (arith, bounds 3 7 n a)) λ w r e. keeps_map _ (fills_channels trigger_time r)
   fills_content time_of_flight p n s a b l = fills_channels flight_time s
   fills_content scintillator p n s a b l = keeps_many pair pair_channels (λ r. length r % 2 ≡ 0)
-      (λ seen s g l. keeps_next (omega arith) λ e r h. keeps_next (omega arith) λ t r₁ h₁. keeps_give (omega arith)) [] s (omega (arith, eqb→eq, both (even n) (between 2 14 n) a))
+      (λ seen s g l. keeps_next _ _ (omega arith) λ e r h. keeps_next _ _ (omega arith) λ t r₁ h₁. keeps_give (omega arith)) [] s (omega (arith, eqb→eq, both (even n) (between 2 14 n) a))
   fills_content ion_chamber p n s a b l = let g = bounds 4 20 n a in
       keeps_left (reads_inner (n - 2) energies_tag (channel_words energy16) (omega arith) (omega arith) (λ r h. fills_channels energy16 r)) (λ r e. omega arith)
   fills_content crdc p n s a b l =
       let g = leb→le 10 n a in
-      keeps_next (omega arith) λ id r e. keeps_bind (reads_inner (n - 7) samples_tag samples (omega arith) (omega arith) (λ s k. fills_samples s (omega arith))) λ x r₁ e₁.
+      keeps_next _ _ (omega arith) λ id r e. keeps_bind (reads_inner (n - 7) samples_tag samples (omega arith) (omega arith) (λ s k. fills_samples s (omega arith))) λ x r₁ e₁.
       keeps_bind (reads_inner 4 anode_tag anode (omega arith) (omega arith) (λ s k. fills_anode s (omega arith))) λ y r₂ e₂. keeps_give (omega arith)
-  fills_content hodoscope p n s a b l = keeps_next (omega (arith, bounds 3 19 n a)) λ id r e. either (λ q. Fills r q) (eqb id 2)
+  fills_content hodoscope p n s a b l = keeps_next _ _ (omega (arith, bounds 3 19 n a)) λ id r e. either (λ q. Fills r q) (eqb id 2)
       (keeps_bind (keeps_require (eqb n 6) 7 p tt b) λ u r₁ e₁. keeps_map _ (fills_registers r₁ (omega (arith, eqb→eq))))
       (keeps_map _ (fills_channels energy16 r))
-  fills_content object_pin p n s a b l = let g = eqb→eq n 3 a in keeps_left (keeps_element (omega arith)) (λ r e. omega arith)
-  fills_content vme_adc p n s a b l = keeps_next (omega (arith, bounds 3 11 n a)) λ w r e. keeps_map _ (fills_channels adc_energy r)
-  fills_content (opaque k) p n s a b l = fills_words (λ u. whole) alone (λ u s l. keeps_element (omega arith)) tt s
+  fills_content object_pin p n s a b l = let g = eqb→eq n 3 a in keeps_left (keeps_element _ _ (omega arith)) (λ r e. omega arith)
+  fills_content vme_adc p n s a b l = keeps_next _ _ (omega (arith, bounds 3 11 n a)) λ w r e. keeps_map _ (fills_channels adc_energy r)
+  fills_content (opaque k) p n s a b l = fills_words (λ u. whole) alone (λ u s l. keeps_element _ _ (omega arith)) tt s
 
   reads_packet : (s : List ℕ) → 1 ≤ length s → Reads s packet (λ r. length r < length s)
   reads_packet s l = keeps_left
-      (reads_packet_of form_word allowed_length packet_content (λ s l. keeps_element (omega arith)) (λ f p n s a b l. keeps_map _ (fills_content f p n s a b (omega arith))) s l)
+      (reads_packet_of form_word allowed_length packet_content (λ s l. keeps_element _ _ (omega arith)) (λ f p n s a b l. keeps_map _ (fills_content f p n s a b (omega arith))) s l)
       (λ r e. omega arith)
 
   -- the first packet or the second, of one length
   reads_first : {A : Type 0} (t m : ℕ) (p : Parser ℕ A) → ((s : List ℕ) → 2 + length s ≡ m → Fills s p)
       → (s : List ℕ) → 1 ≤ length s → Reads s (packet_of (exactly 6 t) (λ u. eqb m) (λ u k n. p)) (λ r. length r + m ≡ length s)
   reads_first t m p c s l = keeps_left
-      (reads_packet_of (exactly 6 t) (λ u. eqb m) (λ u k n. p) (λ s l. keeps_element (omega arith)) (λ u k n s a b l. c s (omega (arith, eqb→eq m n a))) s l)
+      (reads_packet_of (exactly 6 t) (λ u. eqb m) (λ u k n. p) (λ s l. keeps_element _ _ (omega arith)) (λ u k n s a b l. c s (omega (arith, eqb→eq m n a))) s l)
       (λ r e. omega (arith, eqb→eq m e.0 e.3.1))
 
   fills_event : (s : List ℕ) → 0 < bound → Fills s (event_parser (length s))
   fills_event s b = keeps_bind (keeps_require (between smallest_event largest_event (length s)) 1 0 tt b) λ u r e.
       let g = bounds smallest_event largest_event (length s) e.0 in
-      keeps_next (omega arith) λ u r₁ e₁. keeps_next (omega arith) λ u r₂ e₂. keeps_next (omega arith) λ u r₃ e₃.
+      keeps_next _ _ (omega arith) λ u r₁ e₁. keeps_next _ _ (omega arith) λ u r₂ e₂. keeps_next _ _ (omega arith) λ u r₃ e₃.
       keeps_bind (reads_first stamp_tag 6 stamp_content (λ s l. fills_stamp s (omega arith)) r₃ (omega arith)) λ st r₄ e₄.
       keeps_bind (reads_first number_tag 5 number_content (λ s l. fills_number s (omega arith)) r₄ (omega arith)) λ k r₅ e₅.
       keeps_map _ (keeps_map _ (keeps_many (λ u. packet) alone (λ r. Unit {0}) (λ u s g l. keeps_left (reads_packet s l) (λ r e. (e, tt))) tt r₅ tt))

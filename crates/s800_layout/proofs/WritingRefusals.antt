@@ -21,40 +21,40 @@ use Rattle.s800_layout.specs.Writing.{at_packet, datum_below, datum, channel_row
 
 module _ {count : ℕ} where
   writes_channels : (kind base : ℕ) (f : ChannelFormat) (s : List Row) → Writes count s (channel_rows kind base f)
-  writes_channels kind base f = writes_many (datum kind base f) channels at_packet tt (λ seen s. takes_row (omega arith)) []
+  writes_channels kind base f = writes_many (datum kind base f) channels at_packet tt (λ seen s. takes_row _ _ (omega arith)) []
 
   takes_group : (s : List Row) → Takes count s group
-  takes_group s = keeps_next (omega arith) λ h r e. keeps_bind
-      (writes_many (sample_datum h) above after_data tt (λ least s. takes_row (omega arith)) 0 r)
+  takes_group s = keeps_next _ _ (omega arith) λ h r e. keeps_bind
+      (writes_many (sample_datum h) above after_data tt (λ least s. takes_row _ _ (omega arith)) 0 r)
       (λ xs r₁ l. keeps_left (keeps_checked has_data 21 (record { head = h; energies = xs }) tt (omega arith)) (λ r₂ e₂. omega arith))
 
   takes_samples : (s : List Row) → Takes count s samples
-  takes_samples s = keeps_next (omega arith) λ t r e. keeps_left
+  takes_samples s = keeps_next _ _ (omega arith) λ t r e. keeps_left
       (keeps_map _ (writes_many (λ u. group) alone (at_kind 9) tt (λ u s. takes_group s) tt r))
       (λ r₁ l. omega arith)
 
   writes_content : (f : Form) (id : ℕ) (s : List Row) → Writes count s (content f id)
-  writes_content trigger id s = keeps_next (omega arith) λ w r e. keeps_left (keeps_map _ (writes_channels 5 0 trigger_time r)) (λ r₁ l. omega arith)
+  writes_content trigger id s = keeps_next _ _ (omega arith) λ w r e. keeps_left (keeps_map _ (writes_channels 5 0 trigger_time r)) (λ r₁ l. omega arith)
   writes_content time_of_flight id s = writes_channels 5 0 flight_time s
   writes_content scintillator id s = writes_many pair pair_channels at_packet tt
-      (λ seen s. keeps_next (omega arith) λ e r h. keeps_next (omega arith) λ t r₁ h₁. keeps_give (omega arith)) [] s
+      (λ seen s. keeps_next _ _ (omega arith) λ e r h. keeps_next _ _ (omega arith) λ t r₁ h₁. keeps_give (omega arith)) [] s
   writes_content ion_chamber id s = writes_channels 6 0 energy16 s
-  writes_content crdc id s = keeps_bind (takes_samples s) λ x r l. keeps_next (omega arith) λ a r₁ e. keeps_give (omega arith)
+  writes_content crdc id s = keeps_bind (takes_samples s) λ x r l. keeps_next _ _ (omega arith) λ a r₁ e. keeps_give (omega arith)
   writes_content hodoscope id s = either (λ p. Writes count s p) (eqb id hits_id)
-      (keeps_next (omega arith) λ h r e. keeps_give (omega arith))
+      (keeps_next _ _ (omega arith) λ h r e. keeps_give (omega arith))
       (keeps_map _ (writes_channels 6 (16 * id) energy16 s))
-  writes_content object_pin id s = keeps_left (takes_row (omega arith)) (λ r l. omega arith)
+  writes_content object_pin id s = keeps_left (takes_row _ _ (omega arith)) (λ r l. omega arith)
   writes_content vme_adc id s = keeps_map _ (writes_channels 6 (8 * id) adc_energy s)
-  writes_content (opaque k) id s = writes_many (λ u. datum_below 11 0 (2 ^ 16)) alone at_packet tt (λ u s. takes_row (omega arith)) tt s
+  writes_content (opaque k) id s = writes_many (λ u. datum_below 11 0 (2 ^ 16)) alone at_packet tt (λ u s. takes_row _ _ (omega arith)) tt s
 
   takes_packet : (s : List Row) → Takes count s packet
-  takes_packet s = keeps_next (omega arith) λ h r e. keeps_left (keeps_map _ (writes_content h.form h.id r)) (λ r₁ l. omega arith)
+  takes_packet s = keeps_next _ _ (omega arith) λ h r e. keeps_left (keeps_map _ (writes_content h.form h.id r)) (λ r₁ l. omega arith)
 
   takes_stamp : (o : StampOrder) (s : List Row) → Takes count s (stamp_packet o)
-  takes_stamp o s = keeps_next (omega arith) λ u r e. keeps_left (takes_row (omega arith)) (λ r₁ l. omega arith)
+  takes_stamp o s = keeps_next _ _ (omega arith) λ u r e. keeps_left (takes_row _ _ (omega arith)) (λ r₁ l. omega arith)
 
   takes_number : (s : List Row) → Takes count s number_packet
-  takes_number s = keeps_next (omega arith) λ u r e. keeps_left (takes_row (omega arith)) (λ r₁ l. omega arith)
+  takes_number s = keeps_next _ _ (omega arith) λ u r e. keeps_left (takes_row _ _ (omega arith)) (λ r₁ l. omega arith)
 
   writes_event : (o : StampOrder) (s : List Row) → Writes count s (event_rows_up_to o ended)
   writes_event o s = keeps_bind (takes_stamp o s) λ st r l. keeps_bind (takes_number r) λ k r₁ l₁. keeps_left

@@ -1,4 +1,6 @@
 // Reads one event of dialect S, the S800 event of version 5 (document 01), into rows.
+#![tactic(auto)]
+
 mod channel;
 mod channel_packets;
 mod content;

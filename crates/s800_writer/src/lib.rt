@@ -1,4 +1,6 @@
 // Writes one event of dialect S, the S800 event of version 5 (document 01), from its rows.
+#![tactic(auto)]
+
 mod channel_packets;
 mod content;
 mod groups;

@@ -1,3 +1,5 @@
+#![tactic(auto)]
+
 mod lines;
 
 use lines::Lines;

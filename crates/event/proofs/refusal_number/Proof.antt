@@ -1,7 +1,0 @@
--- `refusal_number` meets its contract. Assumes nothing.
-use borrow.Author.Rules.{rules}
-use Rattle.event.proofs.refusal_number.Statement.{statement}
-use Rattle.event.proofs.refusal_number.Tie as tie
-
-pub refusal-number-spec : {M : Type 1} → statement M
-refusal-number-spec = tie.close (tie.spec (λ c. search rules) (λ c. search rules) (λ c. search rules) (λ c. search rules))
