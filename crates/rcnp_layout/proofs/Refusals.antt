@@ -56,7 +56,8 @@ module _ (bound : ℕ) where
   fills_content : (f : Form) (n : ℕ) (s : List ℕ) → T (allowed_size f n) → length s ≡ n → Fills s (content f)
   fills_content input_register n s a l = fills_one n s a l
   fills_content scaler n s a l = keeps_many (λ u. scaler_value) alone (λ r. length r % 2 ≡ 0)
-      (λ u s g l. keeps_bind (reads_below (2 ^ 16) s (omega arith)) λ low r e. keeps_bind (reads_below (2 ^ 8) r (omega arith)) λ high r₁ e₁. keeps_give (omega arith)) tt s (omega (arith, eqb→eq (n % 2) 0 a))
+      (λ u s g l. keeps_bind (reads_below (2 ^ 16) s (omega arith)) λ low r e. keeps_bind (reads_below (2 ^ 8) r (omega arith)) λ high r₁ e₁. keeps_give (omega arith))
+      tt s (omega (arith, eqb→eq (n % 2) 0 a))
   fills_content vdc n s a l = fills_words vdc_value begins (λ begun s l. keeps_element vdc_of (λ w. test 10 (eqb w (vdc_word (vdc_of w))) ∷ vdc_checks 10 begun (vdc_of w)) (omega arith)) false s
   fills_content (opaque k) n s a l = fills_words (λ u. word) alone (λ u s l. reads_below (2 ^ 16) s (omega arith)) tt s
 

@@ -28,7 +28,8 @@ module _ {count : ℕ} where
   writes_content (opaque k) n s = writes_times (λ u. word) alone (λ u s. takes_word s) n tt s
 
   takes_region : (s : List Row) → Takes count s region
-  takes_region s = keeps_next header_of (row_tests (of_kind 32) header_of header_row header_checks) (omega arith) λ h r e. keeps_left (keeps_map _ (writes_content h.form h.size r)) (λ r₁ l. omega arith)
+  takes_region s = keeps_next header_of (row_tests (of_kind 32) header_of header_row header_checks) (omega arith) λ h r e.
+      keeps_left (keeps_map _ (writes_content h.form h.size r)) (λ r₁ l. omega arith)
 
   takes_sum : (s : List Row) → Takes count s sum_region
   takes_sum s = keeps_next (λ r. tt) (row_tests (of_kind 32) (λ r. tt {0}) (λ u. region_row sum_id 1) (λ u. [])) (omega arith) λ u r e. keeps_left (takes_word r) (λ r₁ l. omega arith)
