@@ -2,18 +2,16 @@
 use mathlib.Core.Logic.{⊎_elim, inl, inr}
 use borrow.Author.Tests.{ne_eqb}
 use Rattle.s800_format.specs.Format.{opaque_tag}
-use Rattle.s800_format.proofs.is_opaque.Statement.{statement}
-use Rattle.s800_format.proofs.is_opaque.Tie as tie
+use Rattle.s800_format.proofs.is_opaque.Goals as goal
 
-returns : tie.Need-returns
+pub returns-in-22576 : goal.returns-in-22576
 unfolding opaque_tag
-returns c =
-    ⊎_elim (λ e. rw e) (⊎_elim (λ e. rw e) (⊎_elim (λ e. rw e) (⊎_elim (λ e. rw e) (⊎_elim (λ e. rw e) (λ e. rw e))))) c.match.keys1
+returns-in-22576 c = ⊎_elim (λ e. rw e) (⊎_elim (λ e. rw e) (⊎_elim (λ e. rw e) (⊎_elim (λ e. rw e) (⊎_elim (λ e. rw e) (λ e. rw e))))) c.in-22576.is
 
-returns-2 : tie.Need-returns-2
+pub returns-in_default : goal.returns-in_default
 unfolding opaque_tag
-returns-2 c =
-    let no = c.match.rest.1 in
+returns-in_default c =
+    let no = c.in_default.in_default-own.rest.1 in
     rw (
       ne_eqb _ _ (λ e. no (inl e)),
       ne_eqb _ _ (λ e. no (inr (inl e))),
@@ -22,6 +20,3 @@ returns-2 c =
       ne_eqb _ _ (λ e. no (inr (inr (inr (inr (inl e)))))),
       ne_eqb _ _ (λ e. no (inr (inr (inr (inr (inr e)))))),
     )
-
-pub is-opaque-spec : {M : Type 1} → statement M
-is-opaque-spec = tie.close (tie.spec returns returns-2)
