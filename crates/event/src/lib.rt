@@ -20,7 +20,7 @@ pub struct Row {
 }
 
 // The order of the four stamp chunks in dialect S (document 01, 'Two dialects').
-#[derive(Drop)]
+#[derive(Clone, Copy)]
 pub enum StampOrder {
     Crossed,
     Rising,
