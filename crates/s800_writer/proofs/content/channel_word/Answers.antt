@@ -1,6 +1,5 @@
 -- `content::channel_word` meets its contract. Assumes nothing.
 use native.Mathlib.Omega.{arith}
-use borrow.Author.Rules.{rules}
 use Rattle.s800_writer.proofs.content.channel_word.Goals as goal
 
 pub overflow_add-result : goal.overflow_add-result

@@ -1,6 +1,5 @@
 -- `content::store_pair` meets its contract. Assumes nothing.
 use Rattle.s800_writer.proofs.Pairs.{pair_stored}
-use borrow.Author.Rules.{rules}
 use Rattle.s800_writer.proofs.content.store_pair.Goals as goal
 
 pub returns : goal.returns

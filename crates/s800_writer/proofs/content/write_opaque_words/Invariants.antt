@@ -1,15 +1,8 @@
 -- `content::write_opaque_words` meets its contract. Assumes nothing.
 use Prim.Native.Nat.{◌-◌}
-use native.Mathlib.Omega.{arith}
-use mathlib.Core.Path.{sym, ◌∙◌}
 use lib.ListN.{length}
 use Rattle.event.specs.Writing.{rows_in}
-use Rattle.event.proofs.RowsIn.{rows_count}
-use Rattle.s800_layout.specs.Writing.{at_packet}
-use Rattle.event.proofs.Turns.{begin}
-use Rattle.event.proofs.WritingTurns.{run_done}
-use Rattle.s800_writer.proofs.Singles.{Opaques, opaques_stop, opaques_inside, opaques_step}
-use borrow.Author.Rules.{rules}
+use Rattle.s800_writer.proofs.Singles.{Opaques}
 use Rattle.s800_writer.proofs.content.write_opaque_words.Given as goal
 
 abbrev pub invariant-loop-row : goal.invariant-loop-row

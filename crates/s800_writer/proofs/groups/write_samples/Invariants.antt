@@ -1,18 +1,8 @@
 -- `groups::write_samples` meets its contract. Assumes nothing.
-use Prim.Native.Nat.{◌-◌, ◌+◌, ◌*◌, ◌<◌, ◌≤◌}
-use native.Mathlib.Omega.{arith}
-use mathlib.Core.List.{List}
-use mathlib.Core.Path.{◌≡◌, sym, ◌∙◌}
+use Prim.Native.Nat.{◌-◌}
 use lib.ListN.{length}
-use borrow.Author.Rules.{rules}
-use Rattle.event.specs.declared.Row.{Row}
-use Rattle.event.specs.Writing.{rows_in, at_kind}
-use Rattle.event.proofs.RowsIn.{rows_count}
-use Rattle.event.proofs.Turns.{begin}
-use Rattle.event.proofs.WritingTurns.{run_done}
-use Rattle.s800_writer.specs.Rows.{limits_fault}
-use Rattle.s800_writer.proofs.GroupTurns.{Groups, groups_end, groups_refused, groups_next, groups_short, groups_step, head_inside}
-use Rattle.s800_writer.proofs.Limits.{Bounded, bounded}
+use Rattle.event.specs.Writing.{rows_in}
+use Rattle.s800_writer.proofs.GroupTurns.{Groups}
 use Rattle.s800_writer.proofs.groups.write_samples.Given as goal
 
 abbrev pub invariant-loop-head : goal.invariant-loop-head

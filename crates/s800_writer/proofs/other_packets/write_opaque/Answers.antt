@@ -4,7 +4,6 @@ use Rattle.event.specs.Writing.{rows_in}
 use Rattle.event.proofs.RowsIn.{rows_count}
 use Rattle.s800_layout.specs.Event.{opaque}
 use Rattle.s800_writer.proofs.Packets.{packet_closed, opaque_content}
-use borrow.Author.Rules.{rules}
 use Rattle.s800_writer.proofs.other_packets.write_opaque.Goals as goal
 
 pub overflow_add-own : goal.overflow_add-own
@@ -14,4 +13,6 @@ pub write_opaque_words-content-requires : goal.write_opaque_words-content-requir
 write_opaque_words-content-requires c = record { inside = omega (arith, c.requires); few = omega arith }
 
 pub returns : goal.returns
-returns c = λ k e. packet_closed (opaque k) 0 (rows_in c.args.rows.now) c.args.own (opaque_content (rows_in c.args.rows.now) c.args.own k c.write_opaque_words-content.ensures) c.close.ensures.part (rw e at c.close.ensures.words)
+returns c =
+    λ k e. packet_closed (opaque k) 0 (rows_in c.args.rows.now) c.args.own (opaque_content (rows_in c.args.rows.now) c.args.own k c.write_opaque_words-content.ensures) c.close.ensures.part
+        (rw e at c.close.ensures.words)

@@ -4,7 +4,6 @@ use Rattle.event.specs.Writing.{rows_in}
 use Rattle.event.proofs.RowsIn.{rows_count}
 use Rattle.s800_layout.specs.Event.{scintillator}
 use Rattle.s800_writer.proofs.Packets.{packet_closed}
-use borrow.Author.Rules.{rules}
 use Rattle.s800_writer.proofs.other_packets.write_scintillator.Goals as goal
 
 pub overflow_add-own : goal.overflow_add-own

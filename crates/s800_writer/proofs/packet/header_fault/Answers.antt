@@ -1,6 +1,5 @@
 -- `packet::header_fault` meets its contract. Assumes nothing.
 use Rattle.s800_writer.proofs.Headers.{header_kind, header_unknown, header_good, header_bad}
-use borrow.Author.Rules.{rules}
 use Rattle.s800_writer.proofs.packet.header_fault.Goals as goal
 
 pub returns-then-row-ne-PACKET : goal.returns-then-row-ne-PACKET

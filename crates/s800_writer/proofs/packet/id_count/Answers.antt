@@ -1,7 +1,6 @@
 -- `packet::id_count` meets its contract. Assumes nothing.
 use Rattle.s800_layout.specs.Event.{trigger, time_of_flight}
 use Rattle.s800_writer.proofs.Ids.{count_known, count_looked_up, count_elsewhere, count_between}
-use borrow.Author.Rules.{rules}
 use Rattle.s800_writer.proofs.packet.id_count.Goals as goal
 
 pub returns-then-tag-ne88 : goal.returns-then-tag-ne88

@@ -2,7 +2,6 @@
 use mathlib.Core.Path.{sym, ◌∙◌}
 use Rattle.event.specs.Writing.{rows_in}
 use Rattle.s800_writer.proofs.Headers.{own_refused, own_known, own_taken}
-use borrow.Author.Rules.{rules}
 use Rattle.s800_writer.proofs.packet.write_packet.Goals as goal
 
 pub returns-then-number-ne0 : goal.returns-then-number-ne0

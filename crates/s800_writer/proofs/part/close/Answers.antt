@@ -1,6 +1,5 @@
 -- `part::close` meets its contract. Assumes nothing.
 use mathlib.Core.Path.{sym, ◌∙◌}
-use borrow.Author.Rules.{rules}
 use Rattle.s800_writer.proofs.part.close.Goals as goal
 
 pub returns-in-Refused : goal.returns-in-Refused

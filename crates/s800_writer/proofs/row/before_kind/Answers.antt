@@ -1,6 +1,5 @@
 -- `row::before_kind` meets its contract. Assumes nothing.
 use Rattle.s800_writer.proofs.Limits.{other_there, rows_ended}
-use borrow.Author.Rules.{rules}
 use Rattle.s800_writer.proofs.row.before_kind.Goals as goal
 
 pub returns-then-at-rows : goal.returns-then-at-rows

@@ -1,7 +1,6 @@
 -- `row::channel_fault` meets its contract. Assumes nothing.
 use mathlib.Core.Path.{refl, sym, ◌∙◌}
 use Rattle.s800_writer.proofs.Faults.{datum_kind, datum_low, datum_bad, datum_blocked, datum_good}
-use borrow.Author.Rules.{rules}
 use Rattle.s800_writer.proofs.row.channel_fault.Goals as goal
 
 pub returns-then-row-format : goal.returns-then-row-format

@@ -1,6 +1,5 @@
 -- `whole::store_stamp` meets its contract. Assumes nothing.
 use Rattle.s800_writer.proofs.Heads.{stamp_stored}
-use borrow.Author.Rules.{rules}
 use Rattle.s800_writer.proofs.whole.store_stamp.Goals as goal
 
 pub returns : goal.returns

@@ -1,14 +1,11 @@
 -- `whole::write_packets` meets its contract. Assumes nothing.
-use Prim.Native.Nat.{◌-◌}
 use native.Mathlib.Omega.{arith}
 use native.Mathlib.Nat.{min-le_right}
 use mathlib.Core.Path.{refl}
 use lib.ListN.{length}
-use Rattle.event.specs.Writing.{rows_in}
 use Rattle.event.proofs.RowsIn.{rows_count}
 use Rattle.event.proofs.Turns.{begin}
-use Rattle.s800_writer.proofs.Runs.{Packets, packets_done, packets_stop, packets_within, packets_step}
-use borrow.Author.Rules.{rules}
+use Rattle.s800_writer.proofs.Runs.{packets_done, packets_stop, packets_within, packets_step}
 use Rattle.s800_writer.proofs.whole.write_packets.Goals as goal
 
 pub loop-i-init : goal.loop-i-init
@@ -30,10 +27,14 @@ pub returns-in-Refused : goal.returns-in-Refused
 returns-in-Refused c = packets_stop c.loop-i.invariant (omega (arith, rows_count c.args.rows.now, c.loop-i-test.true)) c.part_start-start.ensures refl c.write_packet-written.ensures _ c.in-Refused.is
 
 pub overflow_add-at : goal.overflow_add-at
-overflow_add-at c = let w = packets_within c.loop-i.invariant (omega (arith, rows_count c.args.rows.now, c.loop-i-test.true)) c.part_start-start.ensures refl c.write_packet-written.ensures c.in-Done.is in omega (arith, rows_count c.args.rows.now, w.0, w.2)
+overflow_add-at c =
+    let w = packets_within c.loop-i.invariant (omega (arith, rows_count c.args.rows.now, c.loop-i-test.true)) c.part_start-start.ensures refl c.write_packet-written.ensures c.in-Done.is in
+    omega (arith, rows_count c.args.rows.now, w.0, w.2)
 
 pub loop-i-smaller : goal.loop-i-smaller
-loop-i-smaller c = let w = packets_within c.loop-i.invariant (omega (arith, rows_count c.args.rows.now, c.loop-i-test.true)) c.part_start-start.ensures refl c.write_packet-written.ensures c.in-Done.is in omega (arith, w.0, w.1)
+loop-i-smaller c =
+    let w = packets_within c.loop-i.invariant (omega (arith, rows_count c.args.rows.now, c.loop-i-test.true)) c.part_start-start.ensures refl c.write_packet-written.ensures c.in-Done.is in
+    omega (arith, w.0, w.1)
 
 pub loop-i-preserved : goal.loop-i-preserved
 loop-i-preserved c = packets_step c.loop-i.invariant (omega (arith, rows_count c.args.rows.now, c.loop-i-test.true)) c.part_start-start.ensures refl c.write_packet-written.ensures c.in-Done.is refl
