@@ -1,10 +1,7 @@
 -- `line::all_digits` meets its contract. The invariant: what is left to test decides the whole test. Assumes nothing.
-use Prim.Native.Nat.{◌+◌, ◌≤◌}
-use mathlib.Core.Path.{◌≡◌, sym, ◌∙◌}
+use mathlib.Core.Path.{sym, ◌∙◌}
 use borrow.Author.Rules.{rules}
 use borrow.Author.Tests.{not-true, not-false}
-use lib.ListN.{length}
-use Rattle.hex_line.specs.Line.{all_digits}
 use Rattle.hex_line.proofs.LineLaws.{digits_none, digits_no, digits_yes}
 use Rattle.std.proofs.Common.{ap, not}
 use Rattle.hex_line.proofs.line.all_digits.Goals as goal

@@ -1,11 +1,8 @@
 -- `line::all_digits` meets its contract. The invariant: what is left to test decides the whole test. Assumes nothing.
 use Prim.Native.Nat.{◌+◌, ◌≤◌}
-use mathlib.Core.Path.{◌≡◌, sym, ◌∙◌}
-use borrow.Author.Rules.{rules}
-use borrow.Author.Tests.{not-true, not-false}
+use mathlib.Core.Path.{◌≡◌}
 use lib.ListN.{length}
 use Rattle.hex_line.specs.Line.{all_digits}
-use Rattle.hex_line.proofs.LineLaws.{digits_none, digits_no, digits_yes}
 use Rattle.hex_line.proofs.line.all_digits.Given as goal
 
 abbrev pub invariant-loop-left : goal.invariant-loop-left

@@ -1,19 +1,16 @@
 -- `line::all_groups` meets its contract. The invariant: what is left to test decides the whole test. Assumes nothing.
-use Prim.Native.Nat.{◌+◌, ◌-◌, ◌*◌, ◌≤◌}
+use Prim.Native.Nat.{◌+◌, ◌-◌, ◌*◌}
 use mathlib.Core.Path.{◌≡◌, sym, ◌∙◌}
 use native.Mathlib.Omega.{arith}
 use borrow.Author.Rules.{rules}
 use borrow.Author.Tests.{not-true, not-false, eq-eqb, ne_eqb}
-use lib.ListN.{length}
-use Rattle.hex_line.specs.Line.{all_groups}
 use Rattle.hex_line.proofs.LineLaws.{product_first, groups_none, groups_no_space, groups_no_digit, groups_yes}
 use Rattle.std.proofs.Common.{ap, not}
 use Rattle.hex_line.proofs.line.all_groups.Goals as goal
 
 pub loop-left-preserved : goal.loop-left-preserved
 loop-left-preserved c =
-    let fits : (c.args.digits + 1) * c.loop-left.left ≡ (c.args.digits + 1) + (c.args.digits + 1) * (c.loop-left.left - 1) = product_first _ _ (search rules) in
-    (
+    let fits : (c.args.digits + 1) * c.loop-left.left ≡ (c.args.digits + 1) + (c.args.digits + 1) * (c.loop-left.left - 1) = product_first _ _ (search rules) in (
       omega (arith, fits),
       c.loop-left.invariant.1
           ∙ groups_yes _ _ _ _ (search rules) (eq-eqb _ _ c.if-line-next-ne32.false)

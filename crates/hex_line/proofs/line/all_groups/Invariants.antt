@@ -1,12 +1,8 @@
 -- `line::all_groups` meets its contract. The invariant: what is left to test decides the whole test. Assumes nothing.
-use Prim.Native.Nat.{◌+◌, ◌-◌, ◌*◌, ◌≤◌}
-use mathlib.Core.Path.{◌≡◌, sym, ◌∙◌}
-use native.Mathlib.Omega.{arith}
-use borrow.Author.Rules.{rules}
-use borrow.Author.Tests.{not-true, not-false, eq-eqb, ne_eqb}
+use Prim.Native.Nat.{◌+◌, ◌*◌, ◌≤◌}
+use mathlib.Core.Path.{◌≡◌}
 use lib.ListN.{length}
 use Rattle.hex_line.specs.Line.{all_groups}
-use Rattle.hex_line.proofs.LineLaws.{product_first, groups_none, groups_no_space, groups_no_digit, groups_yes}
 use Rattle.hex_line.proofs.line.all_groups.Given as goal
 
 abbrev pub invariant-loop-left : goal.invariant-loop-left

@@ -1,7 +1,6 @@
 -- `line::count_words` meets its contract. Assumes nothing.
 use mathlib.Core.Path.{◌≡◌, sym, ◌∙◌}
 use mathlib.Core.Bool.{true}
-use borrow.Author.Rules.{rules}
 use borrow.Author.Tests.{lt-leb, le-leb, not-true, not-false}
 use Rattle.hex_line.specs.Line.{well_formed}
 use Rattle.hex_line.proofs.LineLaws.{formed_long, firsts_length}

@@ -1,5 +1,4 @@
 -- `line::digit` meets its contract. Assumes nothing.
-use borrow.Author.Rules.{rules}
 use borrow.Author.Tests.{lt-ltb, le-ltb}
 use Rattle.hex_line.specs.Line.{digit_of}
 use Rattle.hex_line.proofs.line.digit.Goals as goal

@@ -1,8 +1,7 @@
 -- `line::fill16` meets its contract. Assumes nothing.
-use Prim.Native.Nat.{◌-◌}
 use mathlib.Core.Path.{sym, ◌∙◌}
 use borrow.Author.Rules.{rules}
-use Rattle.hex_line.proofs.LineLaws.{value_lt, Filled, refuse_line, fill_none, fill_next, fill_all}
+use Rattle.hex_line.proofs.LineLaws.{value_lt, refuse_line, fill_none, fill_next, fill_all}
 use Rattle.hex_line.proofs.line.fill16.Goals as goal
 
 pub returns-in_default : goal.returns-in_default

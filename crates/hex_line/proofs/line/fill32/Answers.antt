@@ -1,8 +1,7 @@
 -- `line::fill32` meets its contract. Assumes nothing.
-use Prim.Native.Nat.{◌-◌}
 use mathlib.Core.Path.{sym, ◌∙◌}
 use borrow.Author.Rules.{rules}
-use Rattle.hex_line.proofs.LineLaws.{Filled, refuse_line, fill_none, fill_next, fill_all}
+use Rattle.hex_line.proofs.LineLaws.{refuse_line, fill_none, fill_next, fill_all}
 use Rattle.hex_line.proofs.line.fill32.Goals as goal
 
 pub returns-in_default : goal.returns-in_default

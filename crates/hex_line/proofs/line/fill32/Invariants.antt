@@ -1,8 +1,6 @@
 -- `line::fill32` meets its contract. Assumes nothing.
 use Prim.Native.Nat.{◌-◌}
-use mathlib.Core.Path.{sym, ◌∙◌}
-use borrow.Author.Rules.{rules}
-use Rattle.hex_line.proofs.LineLaws.{Filled, refuse_line, fill_none, fill_next, fill_all}
+use Rattle.hex_line.proofs.LineLaws.{Filled}
 use Rattle.hex_line.proofs.line.fill32.Given as goal
 
 abbrev pub invariant-loop-i : goal.invariant-loop-i

@@ -1,10 +1,7 @@
 -- `line::value` meets its contract: eight digits are below 2 ^ 32. Assumes nothing.
-use Prim.Native.Nat.{◌-◌, ◌≤◌, ◌<◌}
-use mathlib.Core.Path.{◌≡◌, refl, sym, ◌∙◌}
-use native.Mathlib.Omega.{arith}
-use borrow.Author.Rules.{rules}
+use Prim.Native.Nat.{◌-◌, ◌≤◌}
+use mathlib.Core.Path.{◌≡◌}
 use Rattle.hex_line.specs.Line.{value_of}
-use Rattle.hex_line.proofs.LineLaws.{digit_lt, value_room, value_next}
 use Rattle.hex_line.proofs.line.value.Given as goal
 
 abbrev pub invariant-loop-i : goal.invariant-loop-i

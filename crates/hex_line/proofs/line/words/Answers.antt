@@ -1,7 +1,6 @@
 -- `line::words` meets its contract: the width chooses the buffer, and where it is not 16 it is 32. Assumes nothing.
 use Prim.Native.Nat.{ℕ}
 use mathlib.Core.Path.{◌≡◌, refl, sym, ◌∙◌}
-use borrow.Author.Rules.{rules}
 use Rattle.dialects.specs.Dialects.{width}
 use Rattle.dialects.proofs.Widths.{by_width}
 use Rattle.hex_line.proofs.line.words.Goals as goal

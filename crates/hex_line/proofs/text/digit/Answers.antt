@@ -1,5 +1,4 @@
 -- `text::digit` meets its contract. Assumes nothing.
-use borrow.Author.Rules.{rules}
 use borrow.Author.Tests.{lt-ltb, le-ltb}
 use Rattle.hex_line.specs.Text.{character}
 use Rattle.hex_line.proofs.text.digit.Goals as goal

@@ -1,7 +1,6 @@
 -- `text::store_digits` meets its contract. Assumes nothing.
 use native.Mathlib.Omega.{arith}
 use native.Mathlib.Numerals.{towards_suc}
-use borrow.Author.Rules.{rules}
 use lib.ListN.{length-set}
 use Rattle.hex_line.specs.Text.{hex_of}
 use Rattle.hex_line.proofs.text.store_digits.Goals as goal

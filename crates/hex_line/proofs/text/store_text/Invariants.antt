@@ -1,11 +1,8 @@
 -- `text::store_text` meets its contract. Assumes nothing.
 use Prim.Native.Nat.{◌-◌, ◌≤◌}
-use mathlib.Core.Path.{◌≡◌, refl, ◌∙◌}
-use native.Mathlib.Omega.{arith}
-use borrow.Author.Rules.{rules}
-use lib.ListN.{length, take, length-set}
-use lib.Seq.{sets, take-length}
-use Rattle.hex_line.proofs.TextLaws.{sets_copy}
+use mathlib.Core.Path.{◌≡◌}
+use lib.ListN.{length, take}
+use lib.Seq.{sets}
 use Rattle.hex_line.proofs.text.store_text.Given as goal
 
 abbrev pub invariant-loop-i : goal.invariant-loop-i
