@@ -5,8 +5,7 @@ use mathlib.Core.Bool.{Bool, true, false}
 use native.Mathlib.Omega.{arith}
 use lib.Dec.{leb}
 use borrow.Author.Tests.{le-leb, lt-leb, leb-true, leb-false}
-use Rattle.hex_line.proofs.text.has_room.Statement.{statement}
-use Rattle.hex_line.proofs.text.has_room.Tie as tie
+use Rattle.hex_line.proofs.text.has_room.Goals as goal
 
 left : (length at count : ℕ) → at ≤ length → leb count (length - at) ≡ leb (at + count) length
 left length at count l = go (leb count (length - at)) refl
@@ -15,8 +14,8 @@ left length at count l = go (leb count (length - at)) refl
     go true e = let h = leb-true count (length - at) e in sym (le-leb (at + count) length (omega arith))
     go false e = let h = leb-false count (length - at) e in sym (lt-leb (at + count) length (omega arith))
 
-returns : tie.Need-returns
-returns c = sym (lt-leb (c.before.args.at + c.before.args.count) c.before.args.length (omega arith))
+pub returns-then-length-at : goal.returns-then-length-at
+returns-then-length-at c = sym (lt-leb (c.args.at + c.args.count) c.args.length (omega arith))
 
-pub has-room-spec : {M : Type 1} → statement M
-has-room-spec = tie.close (tie.spec returns (λ c. left _ _ _ c.if1.false))
+pub returns : goal.returns
+returns c = left _ _ _ c.if-length-at.false
