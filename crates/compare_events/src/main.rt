@@ -52,7 +52,7 @@ fn compare_input(
         return;
     }
     let count = put_gathered(order, input, gathered, text);
-    stdout.write_all(&text[..count]).is_ok();
+    let _ = stdout.write_all(&text[..count]);
 }
 
 // Puts what is printed of the input at the front: of what was read, and so of all of it, whatever comes later.

@@ -58,5 +58,5 @@ fn put_pads(text: &mut [u8])
 fn main(rt: HostRuntime) {
     let mut text = [0u8; LISTING];
     put_pads(&mut text);
-    rt.stdout().write_all(&text).is_ok();
+    let _ = rt.stdout().write_all(&text);
 }

@@ -11,7 +11,7 @@ use std::io::{Stdout, Write};
 pub(crate) fn write_text(mut stdout: Stdout, text: &[u8], at: usize)
     requires { at ≤ length text.now }
 {
-    stdout.write_all(&text[..at]).is_ok();
+    let _ = stdout.write_all(&text[..at]);
 }
 
 // Where the next line may be put: the text not yet written goes out where the buffer is nearly full.
