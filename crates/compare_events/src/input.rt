@@ -2,10 +2,10 @@
 ghost use Rattle.std.specs.Prelude.{◌+◌, ◌<◌, ◌≤◌, ◌≡◌, false, length};
 ghost use Rattle.compare_events.specs.Run.{feeds_in, after_read, Inside, goes_on};
 
-use libc::STDIN_FILENO;
+use std::io::{Read, Stdin};
 
 // How many characters were read, and how many line feeds are among them; how many the last read gave, none where the input has ended; whether a read failed.
-#[derive(Drop)]
+#[derive(Clone, Copy)]
 pub struct Gathered {
     pub end: usize,
     pub feeds: usize,
@@ -14,7 +14,7 @@ pub struct Gathered {
 }
 
 // Reads up to the second line feed, the end of the input or that of the buffer: behind a line that is too long too, which only two line feeds end.
-pub(crate) fn gather(input: &mut [u8]) -> Gathered
+pub(crate) fn gather(stdin: Stdin, input: &mut [u8]) -> Gathered
     ensures inside { Inside input.new result }
     ensures input_value { goes_on result (length input.old) ≡ false }
 {
@@ -25,7 +25,7 @@ pub(crate) fn gather(input: &mut [u8]) -> Gathered
         failed: false,
     };
     while goes_on(state, input.len()) {
-        state = read_more(input, state);
+        state = read_more(stdin, input, state);
     }
     state
 }
@@ -44,14 +44,22 @@ fn goes_on(state: Gathered, room: usize) -> bool
 }
 
 // Reads behind what was read, once.
-fn read_more(input: &mut [u8], state: Gathered) -> Gathered
+fn read_more(stdin: Stdin, input: &mut [u8], state: Gathered) -> Gathered
     requires { Inside input.old state }
     ensures inside { Inside input.new result }
     ensures end_value { result.end ≡ state.end + result.last }
 {
     let end = state.end;
-    let got = libc::read(STDIN_FILENO, &mut input[end..]);
+    let got = read(stdin, &mut input[end..]);
     after_read(state, got, &input[end..])
+}
+
+// Reads into `part` once, and answers how many characters came, or -1 where the read failed.
+fn read(mut stdin: Stdin, part: &mut [u8]) -> isize {
+    match stdin.read(part) {
+        Ok(count) => count as isize,
+        Err(_) => -1,
+    }
 }
 
 // After a read of `got` characters into `part`: none came at the end of the input, nor where the read failed, which is told apart.

@@ -21,7 +21,7 @@ use listing::{dialect_of_line, first_line};
 const ELEMENTS: usize = 4 * LARGEST_ROWS;
 
 // What a line gives: how many words, or why none, and what their reading answers.
-#[derive(Drop)]
+#[derive(Clone, Copy)]
 pub struct Read {
     pub given: Answer,
     pub answer: Answer,

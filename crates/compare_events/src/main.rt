@@ -17,8 +17,8 @@ use dialects::LARGEST_ROWS;
 use event::{StampOrder, default_order};
 use hex_line::LONGEST_LINE;
 use input::{Gathered, gather};
-use libc::STDOUT_FILENO;
 use lines::put_print;
+use std::io::{Stdin, Stdout, Write};
 
 // The characters of two lines that are not too long, with their line feeds.
 const MOST_INPUT: usize = 2 * (LONGEST_LINE + 1);
@@ -37,16 +37,22 @@ const WORD_NUMBERS: usize = 3 * MOST_WORDS;
 const ROW_NUMBERS: usize = 9 * LARGEST_ROWS;
 
 // Compares in the default stamp order: no order is given to this program.
-fn compare_input(order: StampOrder, input: &mut [u8], text: &mut [u8])
+fn compare_input(
+    stdin: Stdin,
+    mut stdout: Stdout,
+    order: StampOrder,
+    input: &mut [u8],
+    text: &mut [u8],
+)
     requires order_value { order ≡ default_order }
     requires input_len { (length input.old ≡ most_input) × (most_text ≤ length text.old) }
 {
-    let gathered = gather(input);
+    let gathered = gather(stdin, input);
     if gathered.failed {
         return;
     }
     let count = put_gathered(order, input, gathered, text);
-    io::write_all(STDOUT_FILENO, &text[..count]);
+    let _ = stdout.write_all(&text[..count]);
 }
 
 // Puts what is printed of the input at the front: of what was read, and so of all of it, whatever comes later.
@@ -61,8 +67,14 @@ fn put_gathered(order: StampOrder, input: &[u8], gathered: Gathered, text: &mut 
     put_print(order, &input[..end], text)
 }
 
-fn main() {
+fn main(rt: HostRuntime) {
     let mut input = [0u8; MOST_INPUT];
     let mut text = [0u8; MOST_TEXT];
-    compare_input(default_order(), &mut input, &mut text);
+    compare_input(
+        rt.stdin(),
+        rt.stdout(),
+        default_order(),
+        &mut input,
+        &mut text,
+    );
 }

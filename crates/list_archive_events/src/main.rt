@@ -10,9 +10,12 @@ use list_input::{
     BUFFER, Characters, Elements, Ended, Longwords, MOST_ELEMENTS, MOST_LONGWORDS, MOST_WORDS,
     Words,
 };
+use std::io::{Stdin, Stdout};
 
 // Lists in the crossed stamp order.
 fn list(
+    stdin: Stdin,
+    stdout: Stdout,
     order: StampOrder,
     input: &mut Characters,
     words: &mut Words,
@@ -23,16 +26,18 @@ fn list(
     requires { order ≡ Crossed }
     ensures { (result.order ≡ Crossed) × ListedByTurns Crossed result.whole (take result.put text.new) }
 {
-    list_input::list(order, input, words, longwords, rows, text)
+    list_input::list(stdin, stdout, order, input, words, longwords, rows, text)
 }
 
-fn main() {
+fn main(rt: HostRuntime) {
     let mut input = [0u8; BUFFER];
     let mut words = [0u16; MOST_WORDS];
     let mut longwords = [0u32; MOST_LONGWORDS];
     let mut rows = [0u32; MOST_ELEMENTS];
     let mut text = [0u8; BUFFER];
     list(
+        rt.stdin(),
+        rt.stdout(),
         StampOrder::Crossed,
         &mut input,
         &mut words,

@@ -15,6 +15,7 @@ ghost use Rattle.list_input.specs.Turns.{ListedByTurns};
 use event::StampOrder;
 use hex_line::LONGEST_LINE;
 use listing::Next;
+use std::io::{Stdin, Stdout};
 use streams::turn;
 
 // The characters of the input, and of the text, that are held at a time.
@@ -37,7 +38,7 @@ pub type Longwords = [u32; MOST_LONGWORDS];
 pub type Elements = [u32; MOST_ELEMENTS];
 
 // Where a run stands: input[from..end] was read and is not listed yet, text[..at] was put last, and so many lines were listed.
-#[derive(Drop)]
+#[derive(Clone, Copy)]
 struct Run {
     from: usize,
     end: usize,
@@ -47,14 +48,14 @@ struct Run {
 }
 
 // A run, and what comes next of its input.
-#[derive(Drop)]
+#[derive(Clone, Copy)]
 struct Listed {
     run: Run,
     next: Next,
 }
 
 // The same, and whether the text is put to the listing's end.
-#[derive(Drop)]
+#[derive(Clone, Copy)]
 struct Put {
     run: Run,
     next: Next,
@@ -62,7 +63,7 @@ struct Put {
 }
 
 // A run after a turn: whether its input has ended, whether its text was put to the listing's end, and whether a read or a write failed.
-#[derive(Drop)]
+#[derive(Clone, Copy)]
 struct Turn {
     run: Run,
     ended: bool,
@@ -81,6 +82,8 @@ pub struct Ended {
 
 // Lists standard input. The buffers' contents before the call do not matter.
 pub fn list(
+    stdin: Stdin,
+    stdout: Stdout,
     order: StampOrder,
     input: &mut Characters,
     words: &mut Words,
@@ -90,10 +93,12 @@ pub fn list(
 ) -> Ended
     ensures { (result.order ≡ order) × ListedByTurns order result.whole (take result.put text.new) }
 {
-    list_turns(order, input, words, longwords, rows, text)
+    list_turns(stdin, stdout, order, input, words, longwords, rows, text)
 }
 
 fn list_turns(
+    stdin: Stdin,
+    stdout: Stdout,
     order: StampOrder,
     input: &mut [u8],
     words: &mut [u16],
@@ -120,7 +125,9 @@ fn list_turns(
     let mut turns = u64::MAX;
     while goes_on(state, turns) {
         turns -= 1;
-        state = turn(order, input, words, longwords, rows, text, state);
+        state = turn(
+            stdin, stdout, order, input, words, longwords, rows, text, state,
+        );
     }
     ending(order, state)
 }

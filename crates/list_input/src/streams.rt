@@ -11,11 +11,13 @@ ghost use Rattle.list_input.specs.Turns.{SomeTurn};
 use crate::lines::list_more;
 use crate::{Put, Run, Turn};
 use event::StampOrder;
-use libc::{STDIN_FILENO, STDOUT_FILENO};
 use listing::Next;
+use std::io::{Read, Stdin, Stdout, Write};
 
 // Lists what was read, writes what is listed, and then reads more where it is needed.
 pub(crate) fn turn(
+    stdin: Stdin,
+    stdout: Stdout,
     order: StampOrder,
     input: &mut [u8],
     words: &mut [u16],
@@ -41,11 +43,11 @@ pub(crate) fn turn(
         without_text(state.run),
     );
     let run = put.run;
-    let written = write(text, run.at);
+    let written = write(stdout, text, run.at);
     if !written {
         return stopped(run, state.ended, put.over, written);
     }
-    go_on(input, put, state.ended, written)
+    go_on(stdin, input, put, state.ended, written)
 }
 
 // The run before its next text is put.
@@ -61,10 +63,10 @@ fn without_text(run: Run) -> Run
     }
 }
 
-fn write(text: &[u8], at: usize) -> bool
+fn write(mut stdout: Stdout, text: &[u8], at: usize) -> bool
     requires { at ≤ length text.now }
 {
-    io::write_all(STDOUT_FILENO, &text[..at])
+    stdout.write_all(&text[..at]).is_ok()
 }
 
 fn stopped(run: Run, ended: bool, over: bool, written: bool) -> Turn
@@ -80,7 +82,7 @@ fn stopped(run: Run, ended: bool, over: bool, written: bool) -> Turn
 }
 
 // Goes on with the next line, reads more of the input, or ends where all is put. What was put is written.
-fn go_on(input: &mut [u8], put: Put, ended: bool, written: bool) -> Turn
+fn go_on(stdin: Stdin, input: &mut [u8], put: Put, ended: bool, written: bool) -> Turn
     requires written_value { written ≡ true }
     requires from_le_end { (put.run.from ≤ put.run.end) × (put.run.end ≤ length input.old) }
     requires ended_value { put.next ≡ More → (ended ≡ false) × (put.over ≡ false) × (put.run.end - put.run.from < length input.old) }
@@ -97,12 +99,12 @@ fn go_on(input: &mut [u8], put: Put, ended: bool, written: bool) -> Turn
             failed: false,
         };
     };
-    refill(input, run)
+    refill(stdin, input, run)
 }
 
 // Moves the characters that are not listed yet to the front, and reads behind them, so that they stay the first of those to be listed. There is room to read into:
 // a read of no characters would be taken for the end of the input. A failed read ends the run.
-fn refill(input: &mut [u8], run: Run) -> Turn
+fn refill(stdin: Stdin, input: &mut [u8], run: Run) -> Turn
     requires { (run.from ≤ run.end) × (run.end ≤ length input.old) × (run.end - run.from < length input.old) }
     ensures from_value { (result.run.from ≡ 0) × (result.run.end ≤ length input.old) }
     ensures from_bound { (result.ended ≡ false → run.end - run.from < result.run.end) × (result.ended ≡ true → result.run.end ≡ run.end - run.from) }
@@ -112,8 +114,16 @@ fn refill(input: &mut [u8], run: Run) -> Turn
     let from = run.from;
     let rest = run.end - from;
     move_to_front(input, from, rest);
-    let got = libc::read(STDIN_FILENO, &mut input[rest..]);
+    let got = read(stdin, &mut input[rest..]);
     after_read(run, got, &input[rest..])
+}
+
+// Reads into `part` once, and answers how many characters came, or -1 where the read failed.
+fn read(mut stdin: Stdin, part: &mut [u8]) -> isize {
+    match stdin.read(part) {
+        Ok(count) => count as isize,
+        Err(_) => -1,
+    }
 }
 
 // The run after a read of `got` characters into `part`: at the end of the input there were none, and a failed read ends the run.

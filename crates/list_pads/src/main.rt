@@ -8,7 +8,7 @@ ghost use Rattle.hex_line.specs.Text.{Placed};
 ghost use Rattle.list_pads.specs.Pads.{pair_text, connector_text, pads_text};
 
 use hex_line::{put_field, put_number, put_text};
-use libc::STDOUT_FILENO;
+use std::io::Write;
 
 const CHANNELS: u16 = 64;
 
@@ -55,8 +55,8 @@ fn put_pads(text: &mut [u8])
     }
 }
 
-fn main() {
+fn main(rt: HostRuntime) {
     let mut text = [0u8; LISTING];
     put_pads(&mut text);
-    io::write_all(STDOUT_FILENO, &text);
+    let _ = rt.stdout().write_all(&text);
 }

@@ -8,9 +8,16 @@ use crate::output::put_result;
 use crate::vectors::{Call, MOST_ELEMENTS, Vector};
 use dialects::Dialect;
 use event::{Answer, StampOrder};
+use std::io::Stdout;
 
 // Puts what the vector's call answered and left, and answers where the text ends.
-pub(crate) fn show(vector: Vector, elements: &[u32], text: &mut [u8], at: usize) -> usize
+pub(crate) fn show(
+    stdout: Stdout,
+    vector: Vector,
+    elements: &[u32],
+    text: &mut [u8],
+    at: usize,
+) -> usize
     requires room_le_most_elements { (vector.room ≤ most_elements) × (length elements.now ≤ most_elements) }
     requires pending { Pending text.old at }
     ensures { result ≤ length text.old }
@@ -18,7 +25,7 @@ pub(crate) fn show(vector: Vector, elements: &[u32], text: &mut [u8], at: usize)
     let room = vector.room;
     let mut lent = [0xa5a5a5a5; MOST_ELEMENTS];
     let answer = run(vector, elements, &mut lent);
-    put_result(text, at, answer, &lent[..room])
+    put_result(stdout, text, at, answer, &lent[..room])
 }
 
 // The vector's call, with its room of the elements that can be lent.

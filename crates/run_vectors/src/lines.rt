@@ -9,7 +9,7 @@ use hex_line::number_at;
 // The bytes of a line.
 pub(crate) const LINE_BYTES: usize = 45;
 
-#[derive(Drop)]
+#[derive(Clone, Copy)]
 pub struct Numbers {
     pub first: u32,
     pub second: u32,
@@ -18,7 +18,7 @@ pub struct Numbers {
     pub fifth: u32,
 }
 
-#[derive(Drop)]
+#[derive(Clone, Copy)]
 pub enum Line {
     Read(Numbers),
     Malformed,

@@ -6,45 +6,51 @@ ghost use Rattle.run_vectors.specs.Runs.{Run};
 use crate::text::{LONGEST_TEXT, put_answer, put_run};
 use event::Answer;
 use hex_line::put_text;
-use libc::STDOUT_FILENO;
+use std::io::{Stdout, Write};
 
-pub(crate) fn write_text(text: &[u8], at: usize)
+pub(crate) fn write_text(mut stdout: Stdout, text: &[u8], at: usize)
     requires { at ≤ length text.now }
 {
-    io::write_all(STDOUT_FILENO, &text[..at]);
+    let _ = stdout.write_all(&text[..at]);
 }
 
 // Where the next line may be put: the text not yet written goes out where the buffer is nearly full.
-fn make_room(text: &[u8], at: usize) -> usize
+fn make_room(stdout: Stdout, text: &[u8], at: usize) -> usize
     requires { Pending text.now at }
     ensures { result + longest_text ≤ length text.now }
 {
     if LONGEST_TEXT <= text.len() - at {
         return at;
     }
-    write_text(text, at);
+    write_text(stdout, text, at);
     0
 }
 
-pub(crate) fn put_malformed(text: &mut [u8], at: usize) -> usize
+pub(crate) fn put_malformed(stdout: Stdout, text: &mut [u8], at: usize) -> usize
     requires { Pending text.old at }
     ensures { result ≤ length text.old }
 {
-    let start = make_room(text, at);
+    let start = make_room(stdout, text, at);
     put_text(text, start, b"malformed\n")
 }
 
 // The answer, and the lent elements as runs of equal elements.
-pub(crate) fn put_result(text: &mut [u8], at: usize, answer: Answer, lent: &[u32]) -> usize
+pub(crate) fn put_result(
+    stdout: Stdout,
+    text: &mut [u8],
+    at: usize,
+    answer: Answer,
+    lent: &[u32],
+) -> usize
     requires { Pending text.old at }
     ensures { result ≤ length text.old }
 {
-    let start = make_room(text, at);
+    let start = make_room(stdout, text, at);
     let end = put_answer(text, start, answer);
-    put_lent(text, end, lent)
+    put_lent(stdout, text, end, lent)
 }
 
-fn put_lent(text: &mut [u8], at: usize, lent: &[u32]) -> usize
+fn put_lent(stdout: Stdout, text: &mut [u8], at: usize, lent: &[u32]) -> usize
     requires { Pending text.old at }
     ensures { result ≤ length text.old }
 {
@@ -52,7 +58,7 @@ fn put_lent(text: &mut [u8], at: usize, lent: &[u32]) -> usize
     let mut from = 0;
     while from < lent.len() {
         let times = run_length(lent, from);
-        let start = make_room(text, end);
+        let start = make_room(stdout, text, end);
         end = put_run(text, start, times, lent[from]);
         from += times;
     }

@@ -16,14 +16,14 @@ pub(crate) const MOST_ELEMENTS: usize = 16800;
 // How many dialects there are: CALL / DIALECTS is the call, CALL % DIALECTS the dialect.
 const DIALECTS: u32 = 3;
 
-#[derive(Drop)]
+#[derive(Clone, Copy)]
 pub enum Call {
     Write,
     Read,
 }
 
 // What is called, and with what: the stamp order, how many elements are lent, and how many go in. The next vector stands at `next`.
-#[derive(Drop)]
+#[derive(Clone, Copy)]
 pub struct Vector {
     pub call: Call,
     pub dialect: Dialect,
@@ -33,14 +33,14 @@ pub struct Vector {
     pub next: usize,
 }
 
-#[derive(Drop)]
+#[derive(Clone, Copy)]
 pub enum Parsed {
     Given(Vector),
     Malformed,
 }
 
 // The rows stored, and the place after the last run.
-#[derive(Drop)]
+#[derive(Clone, Copy)]
 pub enum Expanded {
     Rows { count: usize, next: usize },
     Malformed,
