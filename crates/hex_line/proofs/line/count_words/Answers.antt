@@ -13,7 +13,7 @@ returns-then-not-well_formed c = rw (sym c.well_formed-2.ensures ∙ not-true _ 
 pub overflow_sub-count : goal.overflow_sub-count
 overflow_sub-count c =
     let formed : well_formed c.args.letter c.args.digits c.args.line.now ≡ true = sym c.well_formed-2.ensures ∙ not-false _ (ap not c.if-not-well_formed.false) in
-    formed_long _ _ _ (formed)
+    formed_long _ _ _ formed
 
 pub returns-then-room-count : goal.returns-then-room-count
 returns-then-room-count c =

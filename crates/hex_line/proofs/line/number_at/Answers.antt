@@ -22,4 +22,4 @@ pub returns : goal.returns
 unfolding number_at
 returns c =
     let room : c.args.at + 8 ≤ length c.args.text.now = leb-true _ _ (sym c.has_room.ensures ∙ not-false _ (ap not c.if-not-has_room.false)) in
-    c.value.ensures ∙ rw (le-leb _ _ (room))
+    c.value.ensures ∙ rw (le-leb _ _ room)

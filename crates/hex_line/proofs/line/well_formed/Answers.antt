@@ -24,7 +24,8 @@ returns-then-line-letter c = simp (length_some _ c.if-line-eq0.false, le-leb _ l
 
 pub returns-then-behind-digits-ne0 : goal.returns-then-behind-digits-ne0
 unfolding well_formed
-returns-then-behind-digits-ne0 c = simp (length_some _ c.if-line-eq0.false, le-leb _ longest_line c.if-line-gt-LONGEST_LINE.false, eq-eqb _ _ c.if-line-letter.false, ne_eqb _ _ c.if-behind-digits-ne0.true)
+returns-then-behind-digits-ne0 c =
+    simp (length_some _ c.if-line-eq0.false, le-leb _ longest_line c.if-line-gt-LONGEST_LINE.false, eq-eqb _ _ c.if-line-letter.false, ne_eqb _ _ c.if-behind-digits-ne0.true)
 
 pub all_groups-requires : goal.all_groups-requires
 all_groups-requires c = (search rules, omega (arith, mul-div-le (length c.args.line.now - 1) (c.args.digits + 1)))
