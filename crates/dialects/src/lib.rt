@@ -6,7 +6,7 @@ ghost use Rattle.dialects.specs.Dialects.{width, dialect_of};
 
 // S, one S800 event of version 5 in 16-bit words; F, one FRS VME event in 32-bit longwords (document 01, 'Two dialects'); R, one event of RCNP regions in
 // 16-bit words (document 02, #101).
-#[derive(Drop)]
+#[derive(Clone, Copy)]
 pub enum Dialect {
     S,
     F,

@@ -60,16 +60,16 @@ fours : (rs : List Row) → length (flat rs) % 4 ≡ 0
 fours [] = refl
 fours (r ∷ rs) = omega (arith, fours rs)
 
-in_flat : (xs : List ℕ) → length xs % 4 ≡ 0 → flat (rows_in xs) ≡ xs
-in_flat [] e = refl
-in_flat (k ∷ []) e = absurd (omega arith)
-in_flat (k ∷ u ∷ []) e = absurd (omega arith)
-in_flat (k ∷ u ∷ c ∷ []) e = absurd (omega arith)
-in_flat (k ∷ u ∷ c ∷ d ∷ xs) e = ap (λ (l : List ℕ). k ∷ u ∷ c ∷ d ∷ l) (in_flat xs (omega arith))
-
 pub elements_iff : (writing_rows : List Row → Outcome ℕ) (xs ws : List ℕ) → (from_elements writing_rows xs ≡ done ws) ↔ ((rs : List Row) × (flat rs ≡ xs) × (writing_rows rs ≡ done ws))
 elements_iff writing_rows xs ws = (to, from)
   where
+    in_flat : (xs : List ℕ) → length xs % 4 ≡ 0 → flat (rows_in xs) ≡ xs
+    in_flat [] e = refl
+    in_flat (k ∷ []) e = absurd (omega arith)
+    in_flat (k ∷ u ∷ []) e = absurd (omega arith)
+    in_flat (k ∷ u ∷ c ∷ []) e = absurd (omega arith)
+    in_flat (k ∷ u ∷ c ∷ d ∷ xs) e = ap (λ (l : List ℕ). k ∷ u ∷ c ∷ d ∷ l) (in_flat xs (omega arith))
+
     to : from_elements writing_rows xs ≡ done ws → (rs : List Row) × (flat rs ≡ xs) × (writing_rows rs ≡ done ws)
     to e = let a = passed (eqb (length xs % 4) 0) _ 20 0 ws e in (rows_in xs, in_flat xs (eqb-true (length xs % 4) 0 a.0), a.1)
 

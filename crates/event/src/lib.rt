@@ -11,7 +11,7 @@ ghost use Rattle.std.specs.Prelude.{◌≡◌};
 ghost use Rattle.event.specs.Outcome.{default_order, order_of, accepted, refusal_number, count_or_place};
 
 // A row of an event (document 01, 'Rows').
-#[derive(Drop)]
+#[derive(Clone, Copy)]
 pub struct Row {
     pub kind: u32,
     pub unit: u32,
@@ -20,14 +20,14 @@ pub struct Row {
 }
 
 // The order of the four stamp chunks in dialect S (document 01, 'Two dialects').
-#[derive(Drop)]
+#[derive(Clone, Copy)]
 pub enum StampOrder {
     Crossed,
     Rising,
 }
 
 // The number of rows (or words) given, or a refusal number and its place.
-#[derive(Drop)]
+#[derive(Clone, Copy)]
 pub enum Answer {
     Accepted(usize),
     Refused { number: u32, place: usize },
@@ -64,7 +64,7 @@ pub fn count_or_place(answer: Answer) -> usize
 }
 
 // A part of an event: the place after it, and the number of rows (or words) given up to there; or a refusal number and its place.
-#[derive(Drop)]
+#[derive(Clone, Copy)]
 pub enum Part {
     Done { next: usize, count: usize },
     Refused { number: u32, place: usize },

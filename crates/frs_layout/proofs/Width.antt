@@ -4,7 +4,7 @@ use Prim.Native.Nat.{ℕ}
 use native.Mathlib.Omega.{arith}
 use mathlib.Core.List.{List, [], ◌∷◌}
 use mathlib.Core.Option.{Option, some, none}
-use lib.Dec.{ltb, ltb→lt, lt→ltb, leb→le}
+use lib.Dec.{ltb→lt, lt→ltb, leb→le}
 use lib.ListN.{length}
 use Rattle.event.specs.Parser.{Passed, if_any, IfAny}
 use Rattle.event.specs.Demands.{InWidth}

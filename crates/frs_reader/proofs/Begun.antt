@@ -79,5 +79,6 @@ module _ {ws before b : List ℕ} {r : Part} {at k : ℕ} (s : Begins ws before 
   pub modules_there : (at ≤ length ws) × (k ≤ at)
   modules_there = let h = begins_done s q in (h.inside, h.few)
 
-  pub whole_event : {a : Answer} {after : List ℕ} → Scanned (each module_rows) (many one_module geos ended [] at (drop at ws)) k b a after → Scanned rows (event_parser (length ws) 0 ws) 0 before a after
+  pub whole_event : {a : Answer} {after : List ℕ} → Scanned (each module_rows) (many one_module geos ended [] at (drop at ws)) k b a after
+      → Scanned rows (event_parser (length ws) 0 ws) 0 before a after
   whole_event {a} {after} t = (begins_done s q).leads.leads a after t

@@ -24,7 +24,8 @@ module _ {A B : Type 0} (p n at : ℕ) (values : Parser ℕ A) (footer : A → P
     fits =
         let e : at + (n + 1) ≡ suc (at + n) = omega arith in
         let f : at + n + 1 ≡ suc (at + n) = omega arith in
-        let last : slice (at + n) (suc (at + n)) ws ≡ get_or ws (at + n) 0 ∷ [] = at_word ws (at + n) (suc (at + n)) (omega arith) (omega arith) ∙ ap (get_or ws (at + n) 0 ∷◌) (slice_empty (suc (at + n)) ws) in
+        let last : slice (at + n) (suc (at + n)) ws ≡ get_or ws (at + n) 0 ∷ [] = at_word ws (at + n) (suc (at + n)) (omega arith) (omega arith)
+        ∙ ap (get_or ws (at + n) 0 ∷◌) (slice_empty (suc (at + n)) ws) in
         within_slice 5 p (n + 1) (within 5 p n values >>= footer) at (length ws) ws (le_refl (length ws)) (omega arith)
         ∙ rw (f, e, within_slice 5 p n values at (suc (at + n)) ws (omega arith) (omega arith), last)
 

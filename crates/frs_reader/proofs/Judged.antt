@@ -108,7 +108,12 @@ module _ {set : ℕ} {seen : List ℕ} (s : Blocked 0 set seen) (i : ℕ) (r : L
     -- another flag
     other_judged : (w / 2 ^ 24 % 2 ^ 3 ≡ 6 → ⊥) → (w / 2 ^ 24 % 2 ^ 3 ≡ 2 → ⊥) → Judged
     unfolding header_fault is_header
-    other_judged n6 n2 = rw (ne_eqb (w / 2 ^ 24 % 2 ^ 3) 6 n6, ne_eqb (w / 2 ^ 24 % 2 ^ 3) 2 n2, ne_eqb w (longword (w / 2 ^ 27) 2 (w % 2 ^ 6)) (λ e. n2 (flag_two (w / 2 ^ 27) (w % 2 ^ 6) w (omega arith) e)))
+    other_judged n6 n2 = rw (
+      ne_eqb (w / 2 ^ 24 % 2 ^ 3) 6 n6,
+      ne_eqb (w / 2 ^ 24 % 2 ^ 3) 2 n2,
+      ne_eqb w (longword (w / 2 ^ 27) 2 (w % 2 ^ 6))
+          (λ e. n2 (flag_two (w / 2 ^ 27) (w % 2 ^ 6) w (omega arith) e)),
+    )
 
     pub header_judged : header seen i (w ∷ r) ≡ on_fault (header_fault set w) (header_of w) i r
     header_judged = go (eqb (w / 2 ^ 24 % 2 ^ 3) 6) refl (eqb (w / 2 ^ 24 % 2 ^ 3) 2) refl

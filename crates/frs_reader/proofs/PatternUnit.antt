@@ -115,7 +115,8 @@ module _ (ws : List ℕ) (at : ℕ) where
             ))
 
             pub pattern_read : {k a b : ℕ} {before after : List ℕ} → footer ≡ pattern_end → k ≤ at → a ≡ register → b ≡ multiplicity
-                → after ≡ store_row before k (pattern_row (record { register = a % 2 ^ 16; multiplicity = b % 2 ^ 16 })) → PartOf (if_any pattern_rows) (optionally at_pattern pattern_unit at (drop at ws)) ws k before after (Done (at + 4) (k + 1))
+                → after ≡ store_row before k (pattern_row (record { register = a % 2 ^ 16; multiplicity = b % 2 ^ 16 }))
+                → PartOf (if_any pattern_rows) (optionally at_pattern pattern_unit at (drop at ws)) ws k before after (Done (at + 4) (k + 1))
             pattern_read {k} z f p q stored =
                 let last : suc (at + 3) ≡ at + 4 = omega arith in
                 record {

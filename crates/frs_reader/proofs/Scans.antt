@@ -114,7 +114,8 @@ module _ {set : ℕ} {ws : List ℕ} {i₀ k₀ i k : ℕ} {b₀ b : List ℕ} (
       let low : g % 32 ≡ g = omega arith in
       step codes_module not_ended h below (le_refl (length ws)) e (rw (q, s, low) (blocked_more g h.holds)) inside few n p z
 
-  pub empty_taken : {g set' : ℕ} {b' : List ℕ} → Opens ws i h.state (Empty g) → set' ≡ insert set (g % 32) → b' ≡ store_rows b k (rows_opened ws (get_or ws i 0 % 2 ^ 6) (Empty g)) → length b' ≡ length b
+  pub empty_taken : {g set' : ℕ} {b' : List ℕ} → Opens ws i h.state (Empty g) → set' ≡ insert set (g % 32) → b' ≡ store_rows b k (rows_opened ws (get_or ws i 0 % 2 ^ 6) (Empty g))
+      → length b' ≡ length b
       → Modules set' ws i₀ k₀ b₀ (i + 1) (k + 1) b'
   empty_taken {g} o s p z = let few = h.few in taken (empty g) o.leads.1 refl o.leads.0 s (omega arith) (omega arith) refl p z
 

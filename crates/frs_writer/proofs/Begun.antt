@@ -76,7 +76,8 @@ module _ (rs : List Row) (before : List ℕ) {r : Row} (e : r ≡ get_or rs 0 no
       pub counted : k ≡ 4 + length (scaler_words values)
       pub stored : b ≡ store_words 32 before 0 (stamp_words (stamp_of r) ++ scaler_words values)
 
-    pub scaler_done : {b₁ b₂ part part' : List ℕ} {start at n : ℕ} {x : Part} → b₁ ≡ store_words 32 before 0 (stamp_words (stamp_of r)) → start ≡ min 4 (length b₁) → part ≡ take (length b₁ - start) (drop start b₁)
+    pub scaler_done : {b₁ b₂ part part' : List ℕ} {start at n : ℕ} {x : Part} → b₁ ≡ store_words 32 before 0 (stamp_words (stamp_of r)) → start ≡ min 4 (length b₁)
+        → part ≡ take (length b₁ - start) (drop start b₁)
         → ScalerIn part x part' → x ≡ Done at n → b₂ ≡ put_mid start (length b₁ - start) b₁ part' → Scaled b₂ at (4 + n)
     scaler_done {b₁} {b₂} {part} {part'} {start} {at} {n} stored s lent w q back = go (wrote 32 scaler_words (scaler 1 (drop 1 rs)) (rw q at w).scanned)
       where
@@ -94,7 +95,8 @@ module _ (rs : List Row) (before : List ℕ) {r : Row} (e : r ≡ get_or rs 0 no
             }
 
     -- and the pattern unit, if any
-    module _ {b₂ : List ℕ} {at k : ℕ} (t : Scaled b₂ at k) {part part' : List ℕ} {x : Part} (w : Writes 32 (if_any pattern_words) (optionally at_pattern pattern_unit at (drop at rs)) rs 0 part x part') where
+    module _ {b₂ : List ℕ} {at k : ℕ} (t : Scaled b₂ at k) {part part' : List ℕ} {x : Part} (w : Writes 32 (if_any pattern_words) (optionally at_pattern pattern_unit at (drop at rs)) rs 0
+        part x part') where
       pub pattern_refused : {after : List ℕ} {m p : ℕ} → x ≡ Refused m p → Begins rs before after x
       pattern_refused q = rw q (record { begun = rw (stamped.1, t.parsed, unwritten 32 (if_any pattern_words) (optionally at_pattern pattern_unit at (drop at rs)) (rw q at w).scanned) })
 
@@ -110,7 +112,8 @@ module _ (rs : List Row) (before : List ℕ) {r : Row} (e : r ≡ get_or rs 0 no
               let l = placed (codes_optionally at_pattern codes_pattern (λ p g r. refl)) rs at t.inside v.parsed in
               let laid : k ≡ 0 + length (stamp_words (stamp_of r) ++ ss) = omega (arith, t.counted) in
               let stored : b₃ ≡ store_words 32 before 0 (first (stamp_of r) t.values o) =
-              part_written 32 ps b₂ k s lent v.stored back ∙ ap (λ (l : List ℕ). store_words 32 l k ps) t.stored ∙ ap (λ (m : ℕ). store_words 32 (store_words 32 before 0 (stamp_words (stamp_of r) ++ ss)) m ps) laid
+              part_written 32 ps b₂ k s lent v.stored back ∙ ap (λ (l : List ℕ). store_words 32 l k ps) t.stored
+              ∙ ap (λ (m : ℕ). store_words 32 (store_words 32 before 0 (stamp_words (stamp_of r) ++ ss)) m ps) laid
               ∙ sym (store_append (store_word 32) before 0 (stamp_words (stamp_of r) ++ ss) ps) in
               record {
                 begun = record {

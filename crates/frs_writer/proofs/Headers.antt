@@ -85,7 +85,8 @@ module _ (r : Row) where
       geo_tests : List Test
       geo_tests = test 22 (ltb r.unit (2 ^ 5)) ∷ test 22 (not (eqb r.unit pattern_geo)) ∷ test 22 (not (eqb r.unit scaler_geo)) ∷ []
 
-      go : (b : Bool) → of_kind 20 r ≡ b → unless_seen (fault_in (row_tests starts_module header_of first_row (header_checks []) r)) set r.unit ≡ fault_in (row_tests starts_module header_of first_row (header_checks seen) r)
+      go : (b : Bool) → of_kind 20 r ≡ b → unless_seen (fault_in (row_tests starts_module header_of first_row (header_checks []) r)) set r.unit
+          ≡ fault_in (row_tests starts_module header_of first_row (header_checks seen) r)
       go true e = rw e (seen_last s r.unit (test 21 true ∷ test 22 (is_same_row r (empty_row r.unit)) ∷ geo_tests) (tt, (tt, (tt, (tt, (tt, tt))))) (λ p. ltb→lt r.unit (2 ^ 5) p.1.1.0))
       go false e = rw e (seen_last s r.unit
           (test 21 (of_kind 21 r) ∷ test 22 (is_same_row r (module_row r.unit r.channel r.datum)) ∷ (count_checks 22 r.channel ++ (counter_checks 22 r.datum ++ geo_tests)))

@@ -48,7 +48,8 @@ module _ (set : ℕ) (rs : List Row) (i : ℕ) (b : List ℕ) {r : Row} (e : r �
 
     pub empty_done : r.kind ≡ 20 → {w : ℕ} {after : List ℕ} → w ≡ empty_word r.unit → after ≡ store_word 32 b 0 w → WritesModule set rs i b (Done (i + 1) 1) after
     empty_done is w q = record {
-      writes = λ seen s. writes_done 32 module_words {a = empty r.unit} {l = drop (i + 1) rs} (rw (taken s, eq-eqb 20 r.kind (sym is))) refl refl (q ∙ ap (store_word 32 b 0) w) (omega (arith, there)) (omega arith);
+      writes = λ seen s. writes_done 32 module_words {a = empty r.unit} {l = drop (i + 1) rs} (rw (taken s, eq-eqb 20 r.kind (sym is))) refl refl (q ∙ ap (store_word 32 b 0) w)
+          (omega (arith, there)) (omega arith);
     }
 
     module _ (not : r.kind ≡ 20 → ⊥) where

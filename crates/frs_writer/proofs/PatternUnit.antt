@@ -38,7 +38,11 @@ module _ (rs : List Row) (i : ℕ) (b : List ℕ) {r : Row} (e : r ≡ get_or rs
   module _ (is : r.kind ≡ 19) where
     pub pattern_refused : {m : ℕ} {part : Part} (after : List ℕ) → m ≡ pattern_fault r → (m ≡ 0 → ⊥) → part ≡ Refused m i → Written part after
     unfolding pattern_fault
-    pattern_refused after f z q = writes_refused 32 (if_any pattern_words) (rw (looks, eq-eqb 19 r.kind (sym is), row_refused (of_kind 19) pattern_of pattern_row (pattern_checks 22) refl (λ p. (tt, (tt, tt))) rs i e f z)) q
+    pattern_refused after f z q = writes_refused 32 (if_any pattern_words) (rw (
+      looks,
+      eq-eqb 19 r.kind (sym is),
+      row_refused (of_kind 19) pattern_of pattern_row (pattern_checks 22) refl (λ p. (tt, (tt, tt))) rs i e f z,
+    )) q
 
     pub pattern_done : {after : List ℕ} → 0 ≡ pattern_fault r → after ≡ store_words 32 b 0 (pattern_words (pattern_of r)) → Written (Done (i + 1) 4) after
     unfolding pattern_fault

@@ -105,4 +105,5 @@ module _ (rs : List Row) (b : List ℕ) {r : Row} (e : r ≡ get_or rs 1 no_row)
             let vs = t.value in
             let same = each_alone vs in
             writes_done 32 scaler_words (block_is ∙ t.parsed) refl (omega (arith, size.3, length-append vs (scaler_end ∷ [])))
-            (block_stored b (header_word scaler_geo (length vs)) vs scaler_end (t.stored ∙ ap (store_words 32 b 1) same) (first ∙ ap (λ (n : ℕ). store_word 32 b₁ 0 (header_word scaler_geo n)) (sym size.0)) size.3 last) size.2 (omega (arith, size.1, size.3))
+            (block_stored b (header_word scaler_geo (length vs)) vs scaler_end (t.stored ∙ ap (store_words 32 b 1) same)
+            (first ∙ ap (λ (n : ℕ). store_word 32 b₁ 0 (header_word scaler_geo n)) (sym size.0)) size.3 last) size.2 (omega (arith, size.1, size.3))

@@ -1,6 +1,6 @@
 -- Every refusal of a reading of dialect R has a number that document 02, #101, gives to R, and its place: a word of the event; for 6 also the word count; 0 for 1 of no words.
 -- Assumes nothing.
-use Prim.Native.Nat.{ℕ, suc, ◌+◌, ◌-◌, ◌%◌, ◌≤◌, ◌<◌}
+use Prim.Native.Nat.{ℕ, suc, ◌+◌, ◌%◌, ◌^◌, ◌≤◌, ◌<◌}
 use native.Mathlib.Omega.{arith}
 use mathlib.Core.Path.{◌≡◌, refl}
 use mathlib.Core.Logic.{◌⊎◌, inl, inr}
@@ -9,14 +9,14 @@ use mathlib.Core.List.{List, [], ◌∷◌}
 use lib.Dec.{T, leb, eqb, eqb→eq}
 use lib.ListN.{length}
 use borrow.Author.Tests.{eqb-true, leb-true, leb-false}
-use Rattle.event.specs.Parser.{Parser, ◌>>◌, require, several, alone, member}
-use Rattle.event.specs.Words.{between}
+use Rattle.event.specs.Parser.{Parser, Test, test, ◌>>◌, require, several, alone, member}
+use Rattle.event.specs.Words.{between, below_checks, word_below}
 use Rattle.event.specs.Outcome.{refused}
-use Rattle.event.proofs.Refusals.{Keeps, keeps_give, keeps_left, keeps_bind, keeps_map, keeps_require, keeps_element, keeps_next, keeps_here, keeps_within, keeps_many, keeps_many_at, keeps_outcome}
+use Rattle.event.proofs.Refusals.{Keeps, keeps_give, keeps_left, keeps_bind, keeps_map, keeps_require, keeps_element, keeps_here, keeps_within, keeps_many, keeps_many_at, keeps_outcome}
 use Rattle.event.proofs.ReadingRefusals.{fills_words}
-use Rattle.rcnp_layout.specs.Event.{Form, input_register, scaler, vdc, opaque}
-use Rattle.rcnp_layout.specs.Layout.{rows, allowed_size, begins, smallest_event, largest_event}
-use Rattle.rcnp_layout.specs.Reading.{filling, word, scaler_value, vdc_value, content, region_content, region, sum_region, at_sum, event_parser, reading}
+use Rattle.rcnp_layout.specs.Event.{Form, input_register, scaler, vdc, opaque, id_of, sum_id}
+use Rattle.rcnp_layout.specs.Layout.{header_word, vdc_word, rows, size_checks, allowed_size, vdc_checks, begins, smallest_event, largest_event}
+use Rattle.rcnp_layout.specs.Reading.{header_of, filling, word, scaler_value, vdc_of, vdc_value, content, region_content, region, sum_region, at_sum, event_parser, reading}
 use Rattle.rcnp_layout.proofs.Event.{keeps_event}
 
 abbrev numbers : List ℕ
@@ -46,18 +46,26 @@ module _ (bound : ℕ) where
       keeps_bind (keeps_require allowed 7 p tt b) λ u r e. keeps_left (c r e.0 (omega arith)) (λ r₁ z. (z, tt)))
       (λ r z. omega arith)
 
+  -- a word below a limit, where one is there
+  reads_below : (limit : ℕ) (s : List ℕ) → 1 ≤ length s → Reads s (word_below 10 limit) (λ r. suc (length r) ≡ length s)
+  reads_below limit s l = keeps_element (λ w. w) (λ w. test 10 (eqb w w) ∷ below_checks 10 limit w) (omega arith)
+
   fills_one : (n : ℕ) (s : List ℕ) → T (eqb n 1) → length s ≡ n → Fills s word
-  fills_one n s a l = let g = eqb→eq n 1 a in keeps_left (keeps_element _ _ (omega arith)) (λ r e. omega arith)
+  fills_one n s a l = let g = eqb→eq n 1 a in keeps_left (reads_below (2 ^ 16) s (omega arith)) (λ r e. omega arith)
 
   fills_content : (f : Form) (n : ℕ) (s : List ℕ) → T (allowed_size f n) → length s ≡ n → Fills s (content f)
   fills_content input_register n s a l = fills_one n s a l
   fills_content scaler n s a l = keeps_many (λ u. scaler_value) alone (λ r. length r % 2 ≡ 0)
-      (λ u s g l. keeps_next _ _ (omega arith) λ low r e. keeps_next _ _ (omega arith) λ high r₁ e₁. keeps_give (omega arith)) tt s (omega (arith, eqb→eq (n % 2) 0 a))
-  fills_content vdc n s a l = fills_words vdc_value begins (λ begun s l. keeps_element _ _ (omega arith)) false s
-  fills_content (opaque k) n s a l = fills_words (λ u. word) alone (λ u s l. keeps_element _ _ (omega arith)) tt s
+      (λ u s g l. keeps_bind (reads_below (2 ^ 16) s (omega arith)) λ low r e. keeps_bind (reads_below (2 ^ 8) r (omega arith)) λ high r₁ e₁. keeps_give (omega arith))
+      tt s (omega (arith, eqb→eq (n % 2) 0 a))
+  fills_content vdc n s a l = fills_words vdc_value begins (λ begun s l. keeps_element vdc_of (λ w. test 10 (eqb w (vdc_word (vdc_of w))) ∷ vdc_checks 10 begun (vdc_of w)) (omega arith)) false s
+  fills_content (opaque k) n s a l = fills_words (λ u. word) alone (λ u s l. reads_below (2 ^ 16) s (omega arith)) tt s
+
+  abbrev header_tests : ℕ → List Test
+  header_tests w = let h = header_of w in test 6 (eqb w (header_word (id_of h.form) h.size)) ∷ size_checks 6 h.size
 
   reads_region : (s : List ℕ) → Reads s region (λ r. length r < length s)
-  reads_region s = keeps_here _ _ (omega arith) λ p b h r e. keeps_left
+  reads_region s = keeps_here header_of header_tests (omega arith) λ p b h r e. keeps_left
       (reads_filling p h.size (allowed_size h.form h.size) (region_content h.form) b (λ s a l. keeps_map _ (fills_content h.form h.size s a l)))
       (λ r₁ l. omega arith)
 
@@ -67,7 +75,7 @@ module _ (bound : ℕ) where
       (λ r h. h.1)
 
   reads_sum : (s : List ℕ) → Reads s sum_region (λ r. length r < length s)
-  reads_sum s = keeps_here _ _ (omega arith) λ p b n r e. keeps_left
+  reads_sum s = keeps_here (◌% 2 ^ 12) (λ w. test 6 (eqb w (header_word sum_id (w % 2 ^ 12))) ∷ size_checks 6 (w % 2 ^ 12)) (omega arith) λ p b n r e. keeps_left
       (reads_filling p n (eqb n 1) word b (fills_one n))
       (λ r₁ l. omega arith)
 

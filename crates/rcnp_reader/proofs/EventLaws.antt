@@ -5,13 +5,12 @@ use native.Mathlib.Omega.{arith}
 use mathlib.Core.Path.{◌≡◌, refl, sym, ◌∙◌, subst}
 use mathlib.Core.Bool.{Bool, true, false}
 use mathlib.Core.List.{List}
-use lib.Dec.{eqb}
 use lib.ListN.{length, drop}
 use borrow.Author.Tests.{lt-leb, le-leb, eq-eqb, ne_eqb}
 use Rattle.event.specs.declared.Answer.{Answer}
 use Rattle.event.specs.declared.Answer.TheVariants as answer
 use Rattle.event.specs.declared.Part.TheVariants.{Done, Refused}
-use Rattle.event.specs.Parser.{Result, ok, refuse, Parser, then, ◌>>=◌, ◌>>◌, give, require, finish, lastly, alone, several, each}
+use Rattle.event.specs.Parser.{Result, ok, refuse, then, ◌>>=◌, ◌>>◌, give, require, finish, lastly, alone, several, each}
 use Rattle.event.specs.Words.{between}
 use Rattle.event.specs.Scanning.{reading, Scanned, PartOf}
 use Rattle.event.proofs.Codes.{T_true}

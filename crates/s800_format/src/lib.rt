@@ -26,7 +26,7 @@ pub const HITS_ID: u32 = 2;
 
 // The channel words of a packet: the kind of their rows, the row channel of channel 0, whether the number below the channel has
 // 13 bits and not 12, and the channels not allowed, as a set of bits.
-#[derive(Drop)]
+#[derive(Clone, Copy)]
 pub struct Format {
     pub kind: u32,
     pub base: u32,

@@ -92,7 +92,8 @@ module _ {A : Type 0} (c : Parser ℕ A) (t m : ℕ) (ws : List ℕ) (start : �
 
   module _ (two : leb 2 (get_or ws start 0) ≡ true) (inside : leb (get_or ws start 0) (length ws - start) ≡ true) where
     opened : fixed start (drop start ws)
-        ≡ filled (slice (start + get_or ws start 0) (length ws) ws) (then (λ u. (require (eqb m (get_or ws start 0)) 7 start >> c)) (exactly 6 t (start + 1) (get_or ws (start + 1) 0 ∷ slice (start + 2) (start + get_or ws start 0) ws)))
+        ≡ filled (slice (start + get_or ws start 0) (length ws) ws) (then (λ u. (require (eqb m (get_or ws start 0)) 7 start >> c))
+        (exactly 6 t (start + 1) (get_or ws (start + 1) 0 ∷ slice (start + 2) (start + get_or ws start 0) ws)))
     opened = body (exactly 6 t) (λ u. eqb m) (λ u p n. c) ws start below refl (leb-true _ _ two) (leb-true _ _ inside) refl
 
     length_passed : eqb (get_or ws (start + 1) 0) t ≡ true → (x : Bool) → eqb m (get_or ws start 0) ≡ x → Read

@@ -77,7 +77,8 @@ module _ {ws : List ℕ} {start n k : ℕ} (s : PacketAt ws start n k) where
         → OpensAs vme_adc ws start n k b after (Channels (energies_of (8 * w) adc_energy) (start + 3) (start + n) (k + 1))
     adc_opens high h q =
         let few = s.few in
-        opens_channels vme_adc (packet_row (tag vme_adc) w ∷ []) (energies_of (8 * w) adc_energy) (λ xs. record { id = w; energies = xs }) (omega arith) (adc_format (8 * w)) (omega arith) (omega arith)
+        opens_channels vme_adc (packet_row (tag vme_adc) w ∷ []) (energies_of (8 * w) adc_energy) (λ xs. record { id = w; energies = xs }) (omega arith)
+        (adc_format (8 * w)) (omega arith) (omega arith)
         (rw (is_between 3 11 n low high, first_word, eq-eqb w w refl, le-leb w 3 h, three)
         (then_then (channel_words adc_energy (start + 3) (slice (start + 3) (start + n) ws)) _ _))
         (λ xs. last_rows 6 (8 * w) (packet_row (tag vme_adc) w ∷ []) xs) q
@@ -103,7 +104,8 @@ module _ {ws : List ℕ} {start n k : ℕ} (s : PacketAt ws start n k) where
             three,
           ))
 
-      inner_words : w ≡ energies_tag → rest_of ion_chamber ws start n ≡ then (λ xs. give (record { form = ion_chamber; content = xs })) (channel_words energy16 (start + 4) (slice (start + 4) (start + n) ws))
+      inner_words : w ≡ energies_tag → rest_of ion_chamber ws start n
+          ≡ then (λ xs. give (record { form = ion_chamber; content = xs })) (channel_words energy16 (start + 4) (slice (start + 4) (start + n) ws))
       inner_words z =
           let four : start + 2 + 2 ≡ start + 4 = omega arith in
           let end : start + 2 + (n - 2) ≡ start + n = omega arith in

@@ -28,7 +28,8 @@ module _ {F A : Type 0} (tagWord : Parser ℕ F) (allowed : F → ℕ → Bool) 
         (within_short 5 start (n - 1) (body_of tagWord allowed content start n) (suc start) (length ws) ws (le_refl (length ws)) (omega arith) (omega arith))
 
     pub body : n ≤ length ws - start → {t : ℕ} → t ≡ get_or ws (start + 1) 0
-        → packet_of tagWord allowed content start (drop start ws) ≡ filled (slice (start + n) (length ws) ws) (body_of tagWord allowed content start n (start + 1) (t ∷ slice (start + 2) (start + n) ws))
+        → packet_of tagWord allowed content start (drop start ws) ≡ filled (slice (start + n) (length ws) ws)
+        (body_of tagWord allowed content start n (start + 1) (t ∷ slice (start + 2) (start + n) ws))
     body inside {t} d =
         let end : suc start + (n - 1) ≡ start + n = omega arith in
         let one : suc start ≡ start + 1 = omega arith in

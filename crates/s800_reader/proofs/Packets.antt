@@ -35,7 +35,8 @@ rest_ends f ws start n long two q j r e = go (allowed_length f n) refl e
     read a (ok c k t) g h = let u : t ≡ r = cc in rw u at (content_ends f start n a (start + 2) (slice (start + 2) (start + n) ws) c k t size g)
     read a (refuse m p) g h = impossible cc
 
-    go : (b : Bool) → allowed_length f n ≡ b → then (λ (u : Unit {0}). packet_content f start n) (cond b (ok tt (start + 2) (slice (start + 2) (start + n) ws)) (refuse 7 start)) ≡ ok q j r → T (ended r)
+    go : (b : Bool) → allowed_length f n ≡ b
+        → then (λ (u : Unit {0}). packet_content f start n) (cond b (ok tt (start + 2) (slice (start + 2) (start + n) ws)) (refuse 7 start)) ≡ ok q j r → T (ended r)
     go true a h = read a (content f start n (start + 2) (slice (start + 2) (start + n) ws)) refl h
     go false a h = impossible cc
 

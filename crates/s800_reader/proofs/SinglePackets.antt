@@ -74,7 +74,8 @@ module _ (m : Format) (i w : ℕ) (g : Datum → Packet) (before : List Row) (ro
       → Leads (each (channel_rows m)) (channel_words (format_of m) i (w ∷ [])) (k + length before) (store_rows b k before) packet_rows (then (λ x. give (g x)) (datum (format_of m) [] i (w ∷ []))) k b
 
   one_word : (good : Bool) (n : ℕ) (d : Datum) → OneWord (cond good (ok d (suc i) []) (refuse n i))
-  one_word true n d e = rw e (leads_trans (record { leads = λ r l s. record { answered = s.answered; stored = s.stored } }) (leads_part before (channel_rows m) (ok d (suc i) []) g packet_rows k b rows))
+  one_word true n d e =
+      rw e (leads_trans (record { leads = λ r l s. record { answered = s.answered; stored = s.stored } }) (leads_part before (channel_rows m) (ok d (suc i) []) g packet_rows k b rows))
   one_word false n d e = rw e (record { leads = λ r l s. record { answered = s.answered; stored = tt } })
 
 module _ {ws : List ℕ} {start n k : ℕ} (s : PacketAt ws start n k) (three : n ≡ 3) (fits : get_or ws (start + 2) 0 < 2 ^ 16) where

@@ -10,7 +10,7 @@ use lib.ListN.{length, get_or, drop, length-map}
 use Rattle.event.specs.declared.Part.{Part}
 use Rattle.event.specs.declared.Part.TheVariants.{Done, Refused}
 use Rattle.event.specs.declared.Row.{Row}
-use Rattle.event.specs.Parser.{Result, ok, Passed, ◌>>=◌, give, here, checked, then, many, several, each, alone, prints}
+use Rattle.event.specs.Parser.{Result, ok, Passed, ◌>>=◌, give, here, checked, then, many, several, each, alone}
 use Rattle.event.specs.Words.{store_word}
 use Rattle.event.specs.Scanning.{store_words, Writes}
 use Rattle.event.specs.Writing.{at_kind, no_row}

@@ -1,0 +1,43 @@
+-- `whole::write_packets` meets its contract. Assumes nothing.
+use native.Mathlib.Omega.{arith}
+use native.Mathlib.Nat.{min-le_right}
+use mathlib.Core.Path.{refl}
+use lib.ListN.{length}
+use Rattle.event.proofs.RowsIn.{rows_count}
+use Rattle.event.proofs.Turns.{begin}
+use Rattle.s800_writer.proofs.Runs.{packets_done, packets_stop, packets_within, packets_step}
+use Rattle.s800_writer.proofs.whole.write_packets.Goals as goal
+
+pub loop-i-init : goal.loop-i-init
+loop-i-init c = begin tt c.requires.inside c.requires.few
+
+pub offset_bounds-words-start : goal.offset_bounds-words-start
+offset_bounds-words-start c = omega (arith, c.part_start-start.ensures, min-le_right c.loop-i.at (length c.loop-i.words))
+
+pub slice_bounds-write_packet-count : goal.slice_bounds-write_packet-count
+slice_bounds-write_packet-count c = omega (arith, c.part_start-start.ensures, min-le_right c.loop-i.at (length c.loop-i.words))
+
+pub slice_bounds-write_packet-start : goal.slice_bounds-write_packet-start
+slice_bounds-write_packet-start c = omega (arith, c.part_start-start.ensures, min-le_right c.loop-i.at (length c.loop-i.words))
+
+pub write_packet-written-requires : goal.write_packet-written-requires
+write_packet-written-requires c = (omega (arith, rows_count c.args.rows.now, c.loop-i-test.true))
+
+pub returns-in-Refused : goal.returns-in-Refused
+returns-in-Refused c = packets_stop c.loop-i.invariant (omega (arith, rows_count c.args.rows.now, c.loop-i-test.true)) c.part_start-start.ensures refl c.write_packet-written.ensures _ c.in-Refused.is
+
+pub overflow_add-at : goal.overflow_add-at
+overflow_add-at c =
+    let w = packets_within c.loop-i.invariant (omega (arith, rows_count c.args.rows.now, c.loop-i-test.true)) c.part_start-start.ensures refl c.write_packet-written.ensures c.in-Done.is in
+    omega (arith, rows_count c.args.rows.now, w.0, w.2)
+
+pub loop-i-smaller : goal.loop-i-smaller
+loop-i-smaller c =
+    let w = packets_within c.loop-i.invariant (omega (arith, rows_count c.args.rows.now, c.loop-i-test.true)) c.part_start-start.ensures refl c.write_packet-written.ensures c.in-Done.is in
+    omega (arith, w.0, w.1)
+
+pub loop-i-preserved : goal.loop-i-preserved
+loop-i-preserved c = packets_step c.loop-i.invariant (omega (arith, rows_count c.args.rows.now, c.loop-i-test.true)) c.part_start-start.ensures refl c.write_packet-written.ensures c.in-Done.is refl
+
+pub returns : goal.returns
+returns c = packets_done c.loop-i.invariant (omega (arith, rows_count c.args.rows.now, c.loop-i-test.false))
