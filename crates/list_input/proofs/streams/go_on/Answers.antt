@@ -1,0 +1,57 @@
+-- `streams::go_on` meets its contract. Assumes nothing.
+use Prim.Native.Nat.{◌-◌}
+use native.Mathlib.Omega.{arith}
+use mathlib.Core.Path.{refl, sym, ◌∙◌}
+use mathlib.Core.Bool.{false≢true}
+use mathlib.Core.List.{[], append-nil}
+use lib.ListN.{drop}
+use Rattle.list_input.specs.Run.{rest_of}
+use Rattle.list_input.proofs.Turns.{piece_behind, piece_some, piece_none}
+use Rattle.list_input.proofs.streams.go_on.Goals as goal
+
+pub returns-in_default : goal.returns-in_default
+returns-in_default c = record {
+  fed = record {
+    piece = [];
+    found = λ _. refl;
+    stays = λ _. (refl, refl);
+    last = λ e. e;
+    some = λ e _ _. absurd (c.in_default.not-More e);
+    rest = sym (append-nil _);
+    begins = c.requires.from_le_end.0;
+    ends = c.requires.from_le_end.1;
+    at = refl;
+    accepted = refl;
+    refused = refl;
+    over = refl;
+  };
+  failed_value = λ _. refl;
+}
+
+pub refill-requires : goal.refill-requires
+refill-requires c = (c.requires.from_le_end.0, c.requires.from_le_end.1, (c.requires.ended_value c.in-More.is).2)
+
+pub returns : goal.returns
+returns c =
+    let r = c.refill.result.run in
+    let input = c.refill.new.input in
+    let e = c.refill.ensures in
+    let m = c.requires.ended_value c.in-More.is in
+    let k = c.args.put.run.end - c.args.put.run.from in
+    let rest = rest_of r input in record {
+      fed = record {
+        piece = drop k rest;
+        found = λ t. piece_none r input k e.from_value.0 (e.from_bound.1 t);
+        stays = λ n. absurd (n c.in-More.is);
+        last = λ t. absurd (false≢true (sym m.0 ∙ t));
+        some = λ _ t _. piece_some r input k e.from_value.0 (omega (arith, e.from_value.1, c.refill.auto.input)) (e.from_bound.0 t);
+        rest = piece_behind k rest e.input_after;
+        begins = omega (arith, e.from_value.0);
+        ends = e.from_value.1;
+        at = e.at_value.0;
+        accepted = e.at_value.1;
+        refused = e.at_value.2;
+        over = e.at_value.3 ∙ sym m.1;
+      };
+      failed_value = λ n. absurd (n c.in-More.is);
+    }
