@@ -18,16 +18,18 @@ crate_count() {
 }
 
 # Says of each crate that it is proved: on a terminal in one line that is written over, elsewhere in a line each. Takes what rt prints, of which it puts out the
-# first error.
+# first error. (A crate that was proved before is not proved again: then the count ends below that of all.)
 show_progress() {
-    local proved=0 all line error=none
+    local proved=0 all line crate_shown='' error=none
     all="$(crate_count)"
     while IFS= read -r line; do
-        if [[ $line =~ ^rt:\ ([a-z0-9_]+)\ proved\ \((.*)\)$ ]]; then
+        if [[ $line =~ ^crate\ ([a-z0-9_]+):\  ]]; then
+            crate_shown=${BASH_REMATCH[1]}
+        elif [[ $line = logic=proved* ]]; then
             proved=$((proved + 1))
-            line="$name: $proved of $all crates proved: ${BASH_REMATCH[1]} (${BASH_REMATCH[2]})"
+            line="$name: $proved of $all crates proved: $crate_shown"
             if [ -t 2 ]; then printf '\r%s\033[K' "$line" >&2; else printf '%s\n' "$line" >&2; fi
-        elif [[ $error = none && ($line = error* || $line = *'NOT PROVED'*) ]]; then
+        elif [[ $error = none && ($line = error* || $line = *': error: '* || $line = logic=not-proved*) ]]; then
             error=shown
             printf '\n%s\n' "$line" >&2
         fi
@@ -39,8 +41,7 @@ build() {
     local log="$root/target/$name.log" start="$root/target/$name.start"
     echo "$name: proving and building the program, once; it takes some minutes" >&2
     mkdir -p "$root/target" && : > "$start" || return 1
-    [ -x "$program" ] || rm -f "$root/target/stamp/$crate"
-    (cd "$root" && rt check "$crate") < /dev/null 2>&1 | tee "$log" | show_progress
+    "$root/tools/build" "$crate" < /dev/null 2>&1 | tee "$log" | show_progress
     if [ "${PIPESTATUS[0]}" -ne 0 ] || ! [ -x "$program" ]; then
         tail -n 1 "$log" >&2
         echo "$name: not built; the whole log is in $log" >&2
@@ -59,7 +60,7 @@ help_if_asked() {
 
 # Proves and builds the program where it is not built, or older than its sources; ends with 1 where that fails.
 build_if_stale() {
-    if [ ! -x "$program" ] || [ -n "$(find "$root/crates" "$root/crates.txt" -newer "$program" -type f -print -quit)" ]; then
+    if [ ! -x "$program" ] || [ -n "$(find "$root/crates" "$root/crates.txt" -name out -prune -o -newer "$program" -type f -print -quit)" ]; then
         build || exit 1
     fi
 }

@@ -51,8 +51,8 @@ both_listed (done ds) (refused n k) = Refused n k
 both_listed (done ds) (done es) = Listed (length ds) (length es)
 
 -- the answer, for lists of so many numbers
-abbrev pub compared : (bits : ℕ) → Dialect → StampOrder → (a b : List ℕ) → (word_size rowSize : ℕ) → Comparison
-compared bits d o a b word_size rowSize = both_listed (words_listed word_size (differing_words a b)) (rows_listed rowSize (rows_apart bits d o a b))
+abbrev pub compared : (bits : ℕ) → Dialect → StampOrder → (a b : List ℕ) → (word_size row_size : ℕ) → Comparison
+compared bits d o a b word_size row_size = both_listed (words_listed word_size (differing_words a b)) (rows_listed row_size (rows_apart bits d o a b))
 
 -- a lent list afterwards: its entries over its front; on 25 nothing is written in either
 abbrev pub written : Comparison → List ℕ → List ℕ → List ℕ

@@ -155,6 +155,7 @@ fn all_digits(line: &[u8], at: usize, count: usize) -> bool
     true
 }
 
+#[tactic(auto, unfolding(crate::specs::Line::is_digit))]
 fn is_digit(character: u8) -> bool
     ensures { result ≡ is_digit character }
 {
@@ -185,6 +186,7 @@ fn value(line: &[u8], at: usize, digits: usize) -> u32
 }
 
 // The value of a digit.
+#[tactic(auto, unfolding(crate::specs::Line::digit_of))]
 fn digit(character: u8) -> u32
     ensures { result ≡ digit_of character }
 {

@@ -86,6 +86,7 @@ fn store_digits(buffer: &mut [u8], at: usize, number: u64)
 }
 
 // The character of a digit.
+#[tactic(auto, unfolding(crate::specs::Text::character))]
 fn digit(value: u64) -> u8
     requires { value < 16 }
     ensures { result ≡ character value }

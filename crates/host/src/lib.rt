@@ -1,4 +1,4 @@
-// The check of dialect S for an analysis written in C (document 01, 'A host analysis written in C may call the check'). include/s800.h declares it.
+// The check of dialect S for an analysis written in C (document 01, 'A host analysis written in C may call the check'). host_c exports it.
 #![tactic(auto)]
 
 ghost use Rattle.std.specs.Prelude.{◌+◌, ◌*◌, ◌/◌, ◌≤◌, ◌≡◌, length};
@@ -9,8 +9,7 @@ ghost use Rattle.host.specs.Check.{words_of, checking, packed, In32, host_answer
 use event::{Answer, StampOrder, count_or_place, order_of, refusal, refusal_number};
 
 // The rows of the event in these bytes, low byte first, or 2^32 times a refusal number plus its place. Any bytes and any order may come in.
-#[unsafe(no_mangle)]
-pub extern "C" fn s800_check(bytes: &[u8], order: u32) -> u64
+pub fn s800_check(bytes: &[u8], order: u32) -> u64
     ensures { result ≡ host_answer bytes.now order }
 {
     packed(answer_to(bytes, order))

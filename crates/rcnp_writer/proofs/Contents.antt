@@ -1,6 +1,6 @@
 -- The loops that judge the rows of a region, one for words as they are, for scalers and for the chamber: what a turn does. Over plain values.
 -- Assumes nothing.
-use Rattle.std.proofs.Common.{◌≡◌, ℕ, zero, suc, ◌+◌, ◌<◌, ◌≤◌, Bool, true, false, ◌&&◌, T, eqb, ltb, List, [], length, get_or, drop, sym, refl, subst, arith, lt-ltb, eqb-true}
+use Rattle.std.proofs.Common.{◌≡◌, ℕ, zero, suc, ◌+◌, ◌<◌, ◌≤◌, Bool, true, false, ◌&&◌, T, eqb, ltb, List, [], get_or, drop, sym, refl, subst, arith, lt-ltb, eqb-true}
 use borrow.Author.Tests.{eqb-false}
 use Rattle.event.specs.declared.Part.{Part}
 use Rattle.event.specs.declared.Part.TheVariants.{Done, Refused}

@@ -17,34 +17,14 @@ loop-left-preserved c =
           (sym c.all_digits.ensures ∙ not-false _ (ap not c.if-not-all_digits.false)),
     )
 
-pub bounds-line-next : goal.bounds-line-next
-bounds-line-next c =
-    let fits : (c.args.digits + 1) * c.loop-left.left ≡ (c.args.digits + 1) + (c.args.digits + 1) * (c.loop-left.left - 1) = product_first _ _ (search rules) in
-    omega (arith, fits)
-
 pub returns-then-line-next-ne32 : goal.returns-then-line-next-ne32
 returns-then-line-next-ne32 c = sym (c.loop-left.invariant.1 ∙ groups_no_space _ _ _ _ (search rules) (ne_eqb _ _ c.if-line-next-ne32.true))
-
-pub overflow_add-next : goal.overflow_add-next
-overflow_add-next c =
-    let fits : (c.args.digits + 1) * c.loop-left.left ≡ (c.args.digits + 1) + (c.args.digits + 1) * (c.loop-left.left - 1) = product_first _ _ (search rules) in
-    omega (arith, fits)
-
-pub all_digits-requires : goal.all_digits-requires
-all_digits-requires c =
-    let fits : (c.args.digits + 1) * c.loop-left.left ≡ (c.args.digits + 1) + (c.args.digits + 1) * (c.loop-left.left - 1) = product_first _ _ (search rules) in
-    omega (arith, fits)
 
 pub returns-then-not-all_digits : goal.returns-then-not-all_digits
 returns-then-not-all_digits c =
     sym (c.loop-left.invariant.1
     ∙ groups_no_digit _ _ _ _ (search rules) (eq-eqb _ _ c.if-line-next-ne32.false)
     (sym c.all_digits.ensures ∙ not-true _ (ap not c.if-not-all_digits.true)))
-
-pub overflow_add-next-in-loop-left-2 : goal.overflow_add-next-in-loop-left-2
-overflow_add-next-in-loop-left-2 c =
-    let fits : (c.args.digits + 1) * c.loop-left.left ≡ (c.args.digits + 1) + (c.args.digits + 1) * (c.loop-left.left - 1) = product_first _ _ (search rules) in
-    omega (arith, fits)
 
 pub returns : goal.returns
 returns c = sym (c.loop-left.invariant.1 ∙ groups_none _ _ _ _ (search rules))

@@ -1,19 +1,16 @@
 -- `line::count_words` meets its contract. Assumes nothing.
 use mathlib.Core.Path.{◌≡◌, sym, ◌∙◌}
 use mathlib.Core.Bool.{true}
-use borrow.Author.Tests.{lt-leb, le-leb, not-true, not-false}
+use borrow.Author.Tests.{lt-leb, le-leb, not-false}
 use Rattle.hex_line.specs.Line.{well_formed}
 use Rattle.hex_line.proofs.LineLaws.{formed_long, firsts_length}
 use Rattle.std.proofs.Common.{ap, not}
 use Rattle.hex_line.proofs.line.count_words.Goals as goal
 
-pub returns-then-not-well_formed : goal.returns-then-not-well_formed
-returns-then-not-well_formed c = rw (sym c.well_formed-2.ensures ∙ not-true _ (ap not c.if-not-well_formed.true))
-
 pub overflow_sub-count : goal.overflow_sub-count
 overflow_sub-count c =
     let formed : well_formed c.args.letter c.args.digits c.args.line.now ≡ true = sym c.well_formed-2.ensures ∙ not-false _ (ap not c.if-not-well_formed.false) in
-    formed_long _ _ _ (formed)
+    formed_long _ _ _ formed
 
 pub returns-then-room-count : goal.returns-then-room-count
 returns-then-room-count c =

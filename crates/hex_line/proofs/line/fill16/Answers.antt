@@ -1,11 +1,7 @@
 -- `line::fill16` meets its contract. Assumes nothing.
-use mathlib.Core.Path.{sym, ◌∙◌}
 use borrow.Author.Rules.{rules}
-use Rattle.hex_line.proofs.LineLaws.{value_lt, refuse_line, fill_none, fill_next, fill_all}
+use Rattle.hex_line.proofs.LineLaws.{value_lt, fill_none, fill_next}
 use Rattle.hex_line.proofs.line.fill16.Goals as goal
-
-pub returns-in_default : goal.returns-in_default
-returns-in_default c = let both = refuse_line _ 4 _ _ c.count_words-answer.ensures c.in_default.is in record { answer = both.0; buffer = both.1 }
 
 pub loop-i-init : goal.loop-i-init
 loop-i-init c = fill_none _ 4 _ _ c.count_words-answer.ensures c.in-Accepted.is
@@ -15,6 +11,3 @@ overflow_cast-words c = record { fits = rw c.value.ensures (value_lt _ _ 4) }
 
 pub loop-i-preserved : goal.loop-i-preserved
 loop-i-preserved c = fill_next _ 4 _ _ c.loop-i.invariant (search rules) c.value.ensures
-
-pub returns : goal.returns
-returns c = record { answer = sym c.in-Accepted.is ∙ c.count_words-answer.ensures; buffer = fill_all _ 4 _ _ c.loop-i.invariant (search rules) }

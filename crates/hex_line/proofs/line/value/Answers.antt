@@ -1,6 +1,6 @@
 -- `line::value` meets its contract: eight digits are below 2 ^ 32. Assumes nothing.
 use Prim.Native.Nat.{◌<◌}
-use mathlib.Core.Path.{◌≡◌, refl, sym, ◌∙◌}
+use mathlib.Core.Path.{refl, sym}
 use native.Mathlib.Omega.{arith}
 use borrow.Author.Rules.{rules}
 use Rattle.hex_line.specs.Line.{value_of}
@@ -24,6 +24,3 @@ overflow_add-value c =
 
 pub loop-i-preserved : goal.loop-i-preserved
 loop-i-preserved c = (search rules, rw (c.loop-i.invariant.1, c.digit.ensures) (sym (value_next _ _ _)))
-
-pub returns : goal.returns
-returns c = let e : c.loop-i.i ≡ c.args.digits = omega arith in c.loop-i.invariant.1 ∙ rw e

@@ -1,10 +1,5 @@
 -- `line::well_formed` meets its contract. Assumes nothing.
-use Prim.Native.Nat.{◌+◌, ◌-◌}
 use mathlib.Core.Path.{◌∙◌}
-use lib.ListN.{length}
-use native.Mathlib.Nat.{mul-div-le}
-use native.Mathlib.Omega.{arith}
-use borrow.Author.Rules.{rules}
 use borrow.Author.Tests.{le-leb, lt-leb, eq-eqb, ne_eqb}
 use Rattle.hex_line.specs.Line.{longest_line, well_formed}
 use Rattle.hex_line.proofs.LineLaws.{length_some, length_none}
@@ -24,10 +19,8 @@ returns-then-line-letter c = simp (length_some _ c.if-line-eq0.false, le-leb _ l
 
 pub returns-then-behind-digits-ne0 : goal.returns-then-behind-digits-ne0
 unfolding well_formed
-returns-then-behind-digits-ne0 c = simp (length_some _ c.if-line-eq0.false, le-leb _ longest_line c.if-line-gt-LONGEST_LINE.false, eq-eqb _ _ c.if-line-letter.false, ne_eqb _ _ c.if-behind-digits-ne0.true)
-
-pub all_groups-requires : goal.all_groups-requires
-all_groups-requires c = (search rules, omega (arith, mul-div-le (length c.args.line.now - 1) (c.args.digits + 1)))
+returns-then-behind-digits-ne0 c =
+    simp (length_some _ c.if-line-eq0.false, le-leb _ longest_line c.if-line-gt-LONGEST_LINE.false, eq-eqb _ _ c.if-line-letter.false, ne_eqb _ _ c.if-behind-digits-ne0.true)
 
 pub returns : goal.returns
 unfolding well_formed

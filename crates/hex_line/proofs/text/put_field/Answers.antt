@@ -14,26 +14,10 @@ returns-then-not-has_room c =
     let h = leb-false (c.args.at + 8) (length c.args.buffer.now) (sym c.has_room.ensures ∙ not-true _ (ap not c.if-not-has_room.true)) in
     let both = put_none _ _ _ (field_length c.args.label.now c.args.number) (omega arith) in record { end = both.0; buffer = both.1 }
 
-pub overflow_sub-buffer : goal.overflow_sub-buffer
-overflow_sub-buffer c =
-    let eight : c.args.at + 8 ≤ length c.args.buffer.now = leb-true _ _ (sym c.has_room.ensures ∙ not-false _ (ap not c.if-not-has_room.false)) in
-    omega (arith, eight)
-
-pub overflow_sub-buffer-2 : goal.overflow_sub-buffer-2
-overflow_sub-buffer-2 c =
-    let eight : c.args.at + 8 ≤ length c.args.buffer.now = leb-true _ _ (sym c.has_room.ensures ∙ not-false _ (ap not c.if-not-has_room.false)) in
-    omega (arith, eight)
-
 pub returns-then-buffer-at : goal.returns-then-buffer-at
 returns-then-buffer-at c =
     let eight : c.args.at + 8 ≤ length c.args.buffer.now = leb-true _ _ (sym c.has_room.ensures ∙ not-false _ (ap not c.if-not-has_room.false)) in
     let both = put_none _ _ _ (field_length c.args.label.now c.args.number) (omega (arith, eight, c.if-buffer-at.true)) in record { end = both.0; buffer = both.1 }
-
-pub store_text-requires : goal.store_text-requires
-store_text-requires c =
-    let eight : c.args.at + 8 ≤ length c.args.buffer.now = leb-true _ _ (sym c.has_room.ensures ∙ not-false _ (ap not c.if-not-has_room.false)) in
-    let room : c.args.at + length (field c.args.label.now c.args.number) ≤ length c.args.buffer.now = rw field_length (omega (arith, eight, c.if-buffer-at.false)) in
-    omega (arith, room, field_length c.args.label.now c.args.number)
 
 pub returns : goal.returns
 unfolding field

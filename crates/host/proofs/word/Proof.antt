@@ -1,7 +1,0 @@
--- `word` meets its contract. Assumes nothing.
-use borrow.Author.Rules.{rules}
-use Rattle.host.proofs.word.Statement.{statement}
-use Rattle.host.proofs.word.Tie as tie
-
-pub word-spec : {M : Type 1} → statement M
-word-spec = tie.close (tie.spec (λ c. search rules) (λ c. search rules) (λ c. search rules))

@@ -1,8 +1,0 @@
--- `channel::value_of` meets its contract. Assumes nothing.
-use Rattle.s800_reader.proofs.channel.value_of.Goals as goal
-
-pub returns-then-format : goal.returns-then-format
-returns-then-format c = rw c.if-format.true
-
-pub returns : goal.returns
-returns c = rw c.if-format.false
