@@ -1,5 +1,4 @@
 -- `tail16` meets its contract. Assumes nothing.
-use borrow.Author.Rules.{rules}
 use Rattle.compare.proofs.Tails.{tail_first, tail_second}
 use Rattle.compare.proofs.tail16.Goals as goal
 

@@ -15,8 +15,8 @@ loop-i-preserved c =
     let h = c.loop-i-test.true in
     let e = rw (c.row_at.ensures, c.row_at-in-loop-i.ensures) at c.same_row-same.ensures in
     elim c.if-not-same.branch [
-      then-not-same w ↦ rw w.found-is (count_more l no_row h (sym e ∙ w.if-not-same.true))
-    | else-not-same w ↦ rw w.found-is (count_same l no_row h (sym e ∙ w.if-not-same.false))
+      | then-not-same w ↦ rw w.found-is (count_more l no_row h (sym e ∙ w.if-not-same.true))
+      | else-not-same w ↦ rw w.found-is (count_same l no_row h (sym e ∙ w.if-not-same.false))
     ]
 
 pub returns : goal.returns

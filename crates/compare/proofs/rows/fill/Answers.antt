@@ -28,8 +28,8 @@ loop-i-preserved c =
     let y = c.row_at-s.ensures in
     let e = rw (x, y) at c.same_row-same.ensures in
     elim c.if-not-same.branch [
-      then-not-same w ↦ rw (w.list-is, w.found-is) (fill_more l no_row h (sym e ∙ w.if-not-same.true) refl (omega arith) (rw (x, y) at w.put_rows.ensures))
-    | else-not-same w ↦ rw (w.list-is, w.found-is) (fill_same l no_row h (sym e ∙ w.if-not-same.false))
+      | then-not-same w ↦ rw (w.list-is, w.found-is) (fill_more l no_row h (sym e ∙ w.if-not-same.true) refl (omega arith) (rw (x, y) at w.put_rows.ensures))
+      | else-not-same w ↦ rw (w.list-is, w.found-is) (fill_same l no_row h (sym e ∙ w.if-not-same.false))
     ]
 
 pub returns : goal.returns

@@ -1,14 +1,8 @@
 -- `rows::fill` meets its contract. Assumes nothing.
 use Prim.Native.Nat.{◌-◌}
-use native.Mathlib.Omega.{arith}
-use mathlib.Core.Path.{◌≡◌, refl, sym, ◌∙◌}
-use mathlib.Core.Logic.{⊎_elim}
-use borrow.Author.Rules.{rules}
-use borrow.Author.Tests.{not-true, not-false}
 use Rattle.event.specs.Rows.{flat_row}
-use Rattle.event.specs.Writing.{rows_in, is_same_row, no_row, row_at}
-use Rattle.event.proofs.RowsIn.{rows_count}
-use Rattle.compare.proofs.Loops.{Filling, fill_start, fill_same, fill_room, fill_more, fill_done}
+use Rattle.event.specs.Writing.{rows_in, is_same_row}
+use Rattle.compare.proofs.Loops.{Filling}
 use Rattle.compare.proofs.rows.fill.Given as goal
 
 abbrev pub invariant-loop-i : goal.invariant-loop-i

@@ -1,11 +1,8 @@
 -- `rows::list_rows` meets its contract. Assumes nothing.
-use borrow.Author.Rules.{rules}
-use Rattle.event.specs.declared.Row.{Row}
 use Rattle.event.specs.Rows.{flat_row}
 use Rattle.event.specs.Writing.{rows_in, is_same_row}
-use Rattle.comparison.specs.Differences.{Difference, differences}
+use Rattle.comparison.specs.Differences.{differences}
 use Rattle.compare.proofs.Ways.{crowded, fits}
-use mathlib.Core.List.{List}
 use Rattle.compare.proofs.rows.list_rows.Goals as goal
 
 pub returns-then-list-needed : goal.returns-then-list-needed

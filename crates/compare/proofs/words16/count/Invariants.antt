@@ -1,10 +1,7 @@
 -- `words16::count` meets its contract. Assumes nothing.
 use Prim.Native.Nat.{◌-◌}
-use mathlib.Core.Logic.{⊎_elim}
 use lib.Dec.{eqb}
-use borrow.Author.Rules.{rules}
-use borrow.Author.Tests.{eq-eqb, ne_eqb}
-use Rattle.compare.proofs.Loops.{Counting, count_start, count_same, count_more, count_done}
+use Rattle.compare.proofs.Loops.{Counting}
 use Rattle.compare.proofs.words16.count.Given as goal
 
 abbrev pub invariant-loop-i : goal.invariant-loop-i

@@ -1,12 +1,10 @@
 -- `words32::fill` meets its contract. Assumes nothing.
-use Prim.Native.Nat.{◌-◌}
 use native.Mathlib.Omega.{arith}
 use mathlib.Core.Path.{refl}
 use lib.Dec.{eqb}
-use borrow.Author.Rules.{rules}
 use borrow.Author.Tests.{eq-eqb, ne_eqb}
 use Rattle.event.specs.Words.{word_alone}
-use Rattle.compare.proofs.Loops.{Filling, fill_start, fill_same, fill_room, fill_more, fill_done}
+use Rattle.compare.proofs.Loops.{fill_start, fill_same, fill_room, fill_more, fill_done}
 use Rattle.compare.proofs.words32.fill.Goals as goal
 use Rattle.compare.proofs.words32.fill.Goals.{then-x-y, else-x-y}
 
@@ -29,8 +27,8 @@ loop-i-preserved c =
     let l = c.loop-i.invariant in
     let h = c.loop-i-test.true in
     elim c.if-x-y.branch [
-      then-x-y w ↦ rw (w.list-is, w.found-is) (fill_more l 0 h (ne_eqb _ _ w.if-x-y.true) refl (omega arith) w.put_words.ensures)
-    | else-x-y w ↦ rw (w.list-is, w.found-is) (fill_same l 0 h (eq-eqb _ _ w.if-x-y.false))
+      | then-x-y w ↦ rw (w.list-is, w.found-is) (fill_more l 0 h (ne_eqb _ _ w.if-x-y.true) refl (omega arith) w.put_words.ensures)
+      | else-x-y w ↦ rw (w.list-is, w.found-is) (fill_same l 0 h (eq-eqb _ _ w.if-x-y.false))
     ]
 
 pub shape_of-list : goal.shape_of-list
