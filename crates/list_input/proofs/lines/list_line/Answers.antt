@@ -3,7 +3,7 @@ use Prim.Native.Nat.{ℕ, ◌+◌, ◌-◌, ◌*◌, ◌≤◌}
 use native.Mathlib.Omega.{arith}
 use mathlib.Core.Path.{◌≡◌, refl, sym, ap, ◌∙◌}
 use mathlib.Core.List.{List}
-use lib.ListN.{length, take, drop}
+use lib.ListN.{take, drop}
 use lib.Seq.{length-take-le}
 use Rattle.event.specs.declared.Answer.{Answer}
 use Rattle.event.specs.declared.StampOrder.{StampOrder}
@@ -46,8 +46,8 @@ returns-in_default c =
     let line = take a.count (drop a.run.from a.input.now) in
     let k = called a.order a.words.now a.longwords.now a.rows.now (passed_line a.input.now a.run.from a.count) c.line_rows-answer.ensures.answer in
     let t = listed_as a.order line (answered a.order line a.words.now a.longwords.now a.rows.now c.requires.rooms k)
-            (no_rows a.order line a.words.now a.longwords.now a.rows.now c.requires.rooms k c.in_default.is) c.requires.inside c.requires.line_inside
-            c.refused_line.ensures in
+    (no_rows a.order line a.words.now a.longwords.now a.rows.now c.requires.rooms k c.in_default.is) c.requires.inside c.requires.line_inside
+    c.refused_line.ensures in
     record { inside_2 = t.0; line_listed = t.1 }
 
 pub overflow_mul-elements : goal.overflow_mul-elements
@@ -88,7 +88,7 @@ returns c =
     let p = passed_line a.input.now a.run.from a.count in
     let k = called a.order a.words.now a.longwords.now a.rows.now p c.line_rows-answer.ensures.answer in
     let rows = rows_given a.order line a.words.now a.longwords.now a.rows.now c.requires.rooms k c.in-Accepted.is
-               (filled a.order a.words.now a.longwords.now a.rows.now p c.line_rows-answer.ensures.rows) in
+    (filled a.order a.words.now a.longwords.now a.rows.now p c.line_rows-answer.ensures.rows) in
     let t = listed_as a.order line (sym c.in-Accepted.is ∙ answered a.order line a.words.now a.longwords.now a.rows.now c.requires.rooms k) rows c.requires.inside
-            c.requires.line_inside c.accepted_line.ensures in
+    c.requires.line_inside c.accepted_line.ensures in
     record { inside_2 = t.0; line_listed = t.1 }
