@@ -1,5 +1,5 @@
-// The calls that bench/ times, in C's calling convention, each with the number of the dialect and the buffers of both widths, as in any_dialect. Each answers the count, or the
-// place of a refusal, so that the two are not told apart. A reading into no rows is the check alone: its answer is then the rows needed, the place of 12.
+// The calls that bench/ times, each with the number of the dialect and the buffers of both widths, as in any_dialect. Each answers the count, or the place of a refusal, so that
+// the two are not told apart. A reading into no rows is the check alone: its answer is then the rows needed, the place of 12. bench_calls_c exports them.
 #![tactic(auto)]
 
 ghost use Rattle.std.specs.Prelude.{◌≡◌, length};
@@ -10,13 +10,7 @@ ghost use Rattle.dialects.specs.Dialects.{dialect_of, reading_into, writing_into
 use dialects::dialect_of;
 use event::{count_or_place, default_order};
 
-#[unsafe(no_mangle)]
-pub extern "C" fn bench_read(
-    dialect: u32,
-    words: &[u16],
-    longwords: &[u32],
-    rows: &mut [u32],
-) -> usize
+pub fn bench_read(dialect: u32, words: &[u16], longwords: &[u32], rows: &mut [u32]) -> usize
     ensures answer { result ≡ count_or_place (answer_of (reading_into (dialect_of dialect) (room (length rows.old)) default_order (of_width (dialect_of dialect) words.now longwords.now))) }
     ensures rows { rows.new ≡ overlaid (flat (given (reading_into (dialect_of dialect) (room (length rows.old)) default_order (of_width (dialect_of dialect) words.now longwords.now)))) rows.old }
 {
@@ -24,13 +18,7 @@ pub extern "C" fn bench_read(
     count_or_place(read)
 }
 
-#[unsafe(no_mangle)]
-pub extern "C" fn bench_write(
-    dialect: u32,
-    rows: &[u32],
-    words: &mut [u16],
-    longwords: &mut [u32],
-) -> usize
+pub fn bench_write(dialect: u32, rows: &[u32], words: &mut [u16], longwords: &mut [u32]) -> usize
     ensures answer { result ≡ count_or_place (answer_of (writing_into (dialect_of dialect) (length (of_width (dialect_of dialect) words.old longwords.old)) default_order rows.now)) }
     ensures words { words.new ≡ over16 (dialect_of dialect) (given (writing_into (dialect_of dialect) (length (of_width (dialect_of dialect) words.old longwords.old)) default_order rows.now)) words.old }
     ensures longwords { longwords.new ≡ over32 (dialect_of dialect) (given (writing_into (dialect_of dialect) (length (of_width (dialect_of dialect) words.old longwords.old)) default_order rows.now)) longwords.old }

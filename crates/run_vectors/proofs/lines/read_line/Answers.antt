@@ -12,8 +12,14 @@ returns-then-input-place-lt-LINE_BYTES c = record { value = rw (lt-ltb _ _ c.if-
 
 pub returns-then-not-separated : goal.returns-then-not-separated
 unfolding line_at
-returns-then-not-separated c = record { value = rw (le-ltb _ _ c.if-input-place-lt-LINE_BYTES.false, sym c.separated.ensures ∙ not-true _ (ap not c.if-not-separated.true)); line_within = tt }
+returns-then-not-separated c = record {
+  value = rw (le-ltb _ _ c.if-input-place-lt-LINE_BYTES.false, sym c.separated.ensures ∙ not-true _ (ap not c.if-not-separated.true));
+  line_within = tt;
+}
 
 pub returns : goal.returns
 unfolding line_at
-returns c = record { value = rw (le-ltb _ _ c.if-input-place-lt-LINE_BYTES.false, sym c.separated.ensures ∙ not-false _ (ap not c.if-not-separated.false), c.five_numbers.ensures); line_within = search rules }
+returns c = record {
+  value = rw (le-ltb _ _ c.if-input-place-lt-LINE_BYTES.false, sym c.separated.ensures ∙ not-false _ (ap not c.if-not-separated.false), c.five_numbers.ensures);
+  line_within = search rules;
+}

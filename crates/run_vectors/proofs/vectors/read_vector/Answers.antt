@@ -2,7 +2,6 @@
 use Prim.Native.Nat.{◌*◌, ◌≤◌}
 use mathlib.Core.Path.{sym, ◌∙◌}
 use native.Mathlib.Omega.{arith}
-use lib.ListN.{length}
 use borrow.Author.Tests.{not-true, not-false}
 use Rattle.run_vectors.proofs.RowLaws.{vector_no_line, vector_no_head, vector_no_runs, vector_runs, line_within, rows_within, head_room, vector_within}
 use Rattle.std.proofs.Common.{ap, not}
@@ -26,17 +25,17 @@ returns-in_default-expanded c =
     record { elements_after = sym (vector_no_runs _ _ _ told holds c.expand-expanded.ensures.elements_after c.in_default-expanded.is); vector_within = tt }
 
 pub overflow_mul-count : goal.overflow_mul-count
-overflow_mul-count c =
-    let rows_fit : c.in-Rows.count * 4 ≤ length (c.args.elements.now) = let h = rows_within _ _ _ c.in-Rows.is c.expand-expanded.ensures.rows_within in omega arith in
-    omega (arith, rows_fit)
+overflow_mul-count c = let h = rows_within _ _ _ c.in-Rows.is c.expand-expanded.ensures.rows_within in omega arith
 
 pub vector_of-requires : goal.vector_of-requires
-vector_of-requires c =
-    let rows_fit : c.in-Rows.count * 4 ≤ length (c.args.elements.now) = let h = rows_within _ _ _ c.in-Rows.is c.expand-expanded.ensures.rows_within in omega arith in
-    omega (arith, rows_fit)
+vector_of-requires c = let h = rows_within _ _ _ c.in-Rows.is c.expand-expanded.ensures.rows_within in omega arith
 
 pub returns : goal.returns
 returns c =
     let told = sym c.read_line.ensures.value ∙ c.in-Read.is in
     let holds = sym c.head_holds.ensures ∙ not-false _ (ap not c.if-not-head_holds.false) in
-    let w = rows_within _ _ _ c.in-Rows.is c.expand-expanded.ensures.rows_within in record { elements_after = rw c.vector_of.ensures (sym (vector_runs _ _ _ told holds c.expand-expanded.ensures.elements_after c.in-Rows.is)); vector_within = rw c.vector_of.ensures (vector_within _ _ _ _ _ _ _ (omega arith) (omega arith) (head_room _ holds) (omega arith)) }
+    let w = rows_within _ _ _ c.in-Rows.is c.expand-expanded.ensures.rows_within in
+    rw c.vector_of.ensures (record {
+      elements_after = sym (vector_runs _ _ _ told holds c.expand-expanded.ensures.elements_after c.in-Rows.is);
+      vector_within = vector_within _ _ _ _ _ _ _ (omega arith) (omega arith) (head_room _ holds) (omega arith);
+    })
