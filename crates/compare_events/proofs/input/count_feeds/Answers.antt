@@ -19,8 +19,8 @@ loop-i-preserved c =
     let l = c.loop-i in
     let h = c.loop-i-test.true in
     elim c.if-part-i-eq10.branch [
-      then-part-i-eq10 w ↦ rw w.feeds-is (omega arith, feeds_more c.args.part.now l.i h w.if-part-i-eq10.true l.invariant.1, omega arith)
-    | else-part-i-eq10 w ↦ rw w.feeds-is (omega arith, feeds_same c.args.part.now l.i h w.if-part-i-eq10.false l.invariant.1, omega arith)
+      | then-part-i-eq10 w ↦ rw w.feeds-is (omega arith, feeds_more c.args.part.now l.i h w.if-part-i-eq10.true l.invariant.1, omega arith)
+      | else-part-i-eq10 w ↦ rw w.feeds-is (omega arith, feeds_same c.args.part.now l.i h w.if-part-i-eq10.false l.invariant.1, omega arith)
     ]
 
 pub returns : goal.returns
