@@ -1,10 +1,8 @@
 -- `input::count_feeds` meets its contract. Assumes nothing.
-use Prim.Native.Nat.{◌-◌, ◌≤◌}
 use native.Mathlib.Omega.{arith}
 use mathlib.Core.Path.{◌≡◌, refl}
-use lib.ListN.{length, take}
+use lib.ListN.{take}
 use lib.Seq.{take_all}
-use borrow.Author.Rules.{rules}
 use Rattle.compare_events.specs.Run.{feeds_in}
 use Rattle.compare_events.proofs.Feeds.{feeds_more, feeds_same}
 use Rattle.compare_events.proofs.input.count_feeds.Goals as goal
@@ -19,8 +17,8 @@ loop-i-preserved c =
     let l = c.loop-i in
     let h = c.loop-i-test.true in
     elim c.if-part-i-eq10.branch [
-      then-part-i-eq10 w ↦ rw w.feeds-is (omega arith, feeds_more c.args.part.now l.i h w.if-part-i-eq10.true l.invariant.1, omega arith)
-    | else-part-i-eq10 w ↦ rw w.feeds-is (omega arith, feeds_same c.args.part.now l.i h w.if-part-i-eq10.false l.invariant.1, omega arith)
+      | then-part-i-eq10 w ↦ rw w.feeds-is (omega arith, feeds_more c.args.part.now l.i h w.if-part-i-eq10.true l.invariant.1, omega arith)
+      | else-part-i-eq10 w ↦ rw w.feeds-is (omega arith, feeds_same c.args.part.now l.i h w.if-part-i-eq10.false l.invariant.1, omega arith)
     ]
 
 pub returns : goal.returns

@@ -26,7 +26,7 @@ overflow_mul-a c =
     let r = c.requires.dialect_value in
     let b = c.requires.words_len in
     let l = lists a.dialect a.order a.first.now a.second.now 16 r.0 r.1 r.2 a.words.now a.rows.now b.0 b.1 k.ensures.answer c.in-Listed.is k.auto.words
-            k.auto.rows k.ensures.words k.ensures.rows in
+    k.auto.rows k.ensures.words k.ensures.rows in
     omega (arith, l.word_room, k.auto.words, b.0)
 
 pub overflow_mul-b : goal.overflow_mul-b
@@ -36,7 +36,7 @@ overflow_mul-b c =
     let r = c.requires.dialect_value in
     let b = c.requires.words_len in
     let l = lists a.dialect a.order a.first.now a.second.now 16 r.0 r.1 r.2 a.words.now a.rows.now b.0 b.1 k.ensures.answer c.in-Listed.is k.auto.words
-            k.auto.rows k.ensures.words k.ensures.rows in
+    k.auto.rows k.ensures.words k.ensures.rows in
     omega (arith, l.row_room, k.auto.rows, b.1)
 
 pub slice_bounds-put_words-end : goal.slice_bounds-put_words-end
@@ -46,7 +46,7 @@ slice_bounds-put_words-end c =
     let r = c.requires.dialect_value in
     let b = c.requires.words_len in
     let l = lists a.dialect a.order a.first.now a.second.now 16 r.0 r.1 r.2 a.words.now a.rows.now b.0 b.1 k.ensures.answer c.in-Listed.is k.auto.words
-            k.auto.rows k.ensures.words k.ensures.rows in
+    k.auto.rows k.ensures.words k.ensures.rows in
     l.word_room
 
 pub slice_bounds-put_words-end-2 : goal.slice_bounds-put_words-end-2
@@ -56,7 +56,7 @@ slice_bounds-put_words-end-2 c =
     let r = c.requires.dialect_value in
     let b = c.requires.words_len in
     let l = lists a.dialect a.order a.first.now a.second.now 16 r.0 r.1 r.2 a.words.now a.rows.now b.0 b.1 k.ensures.answer c.in-Listed.is k.auto.words
-            k.auto.rows k.ensures.words k.ensures.rows in
+    k.auto.rows k.ensures.words k.ensures.rows in
     sym (length-take-le _ _ l.word_room)
 
 pub put_words-middle-requires : goal.put_words-middle-requires
@@ -66,7 +66,7 @@ put_words-middle-requires c =
     let r = c.requires.dialect_value in
     let b = c.requires.words_len in
     let l = lists a.dialect a.order a.first.now a.second.now 16 r.0 r.1 r.2 a.words.now a.rows.now b.0 b.1 k.ensures.answer c.in-Listed.is k.auto.words
-            k.auto.rows k.ensures.words k.ensures.rows in
+    k.auto.rows k.ensures.words k.ensures.rows in
     room_words_lem a.dialect a.order a.first.now a.second.now r.1 r.2 l a.at b.2
 
 pub put_tail-more-requires : goal.put_tail-more-requires
@@ -76,7 +76,7 @@ put_tail-more-requires c =
     let r = c.requires.dialect_value in
     let b = c.requires.words_len in
     let l = lists a.dialect a.order a.first.now a.second.now 16 r.0 r.1 r.2 a.words.now a.rows.now b.0 b.1 k.ensures.answer c.in-Listed.is k.auto.words
-            k.auto.rows k.ensures.words k.ensures.rows in
+    k.auto.rows k.ensures.words k.ensures.rows in
     let w = c.put_words-middle.ensures (differing_words _ _) l.word_list in
     let e = ap length c.tail16-tail.ensures in
     let m = tail_length_lem a.first.now a.second.now in
@@ -89,7 +89,7 @@ slice_bounds-put_rows-end c =
     let r = c.requires.dialect_value in
     let b = c.requires.words_len in
     let l = lists a.dialect a.order a.first.now a.second.now 16 r.0 r.1 r.2 a.words.now a.rows.now b.0 b.1 k.ensures.answer c.in-Listed.is k.auto.words
-            k.auto.rows k.ensures.words k.ensures.rows in
+    k.auto.rows k.ensures.words k.ensures.rows in
     l.row_room
 
 pub slice_bounds-put_rows-end-2 : goal.slice_bounds-put_rows-end-2
@@ -99,7 +99,7 @@ slice_bounds-put_rows-end-2 c =
     let r = c.requires.dialect_value in
     let b = c.requires.words_len in
     let l = lists a.dialect a.order a.first.now a.second.now 16 r.0 r.1 r.2 a.words.now a.rows.now b.0 b.1 k.ensures.answer c.in-Listed.is k.auto.words
-            k.auto.rows k.ensures.words k.ensures.rows in
+    k.auto.rows k.ensures.words k.ensures.rows in
     sym (length-take-le _ _ l.row_room)
 
 pub put_rows-end-requires : goal.put_rows-end-requires
@@ -109,7 +109,7 @@ put_rows-end-requires c =
     let r = c.requires.dialect_value in
     let b = c.requires.words_len in
     let l = lists a.dialect a.order a.first.now a.second.now 16 r.0 r.1 r.2 a.words.now a.rows.now b.0 b.1 k.ensures.answer c.in-Listed.is k.auto.words
-            k.auto.rows k.ensures.words k.ensures.rows in
+    k.auto.rows k.ensures.words k.ensures.rows in
     let w = c.put_words-middle.ensures (differing_words _ _) l.word_list in
     let t = tail_put a.first.now a.second.now refl refl c.tail16-tail.ensures c.put_tail-more.ensures in
     omega (arith, room_rows a.dialect a.order a.first.now a.second.now r.1 r.2 l a.at b.2 w t, c.put_tail-more.auto.text, c.put_words-middle.auto.text)
@@ -121,7 +121,7 @@ put_end-requires c =
     let r = c.requires.dialect_value in
     let b = c.requires.words_len in
     let l = lists a.dialect a.order a.first.now a.second.now 16 r.0 r.1 r.2 a.words.now a.rows.now b.0 b.1 k.ensures.answer c.in-Listed.is k.auto.words
-            k.auto.rows k.ensures.words k.ensures.rows in
+    k.auto.rows k.ensures.words k.ensures.rows in
     let w = c.put_words-middle.ensures (differing_words _ _) l.word_list in
     let t = tail_put a.first.now a.second.now refl refl c.tail16-tail.ensures c.put_tail-more.ensures in
     let p = c.put_rows-end.ensures (differing_rows (reading a.dialect a.order a.first.now) (reading a.dialect a.order a.second.now)) l.row_list in
@@ -134,7 +134,7 @@ returns c =
     let r = c.requires.dialect_value in
     let b = c.requires.words_len in
     let l = lists a.dialect a.order a.first.now a.second.now 16 r.0 r.1 r.2 a.words.now a.rows.now b.0 b.1 k.ensures.answer c.in-Listed.is k.auto.words
-            k.auto.rows k.ensures.words k.ensures.rows in
+    k.auto.rows k.ensures.words k.ensures.rows in
     let w = c.put_words-middle.ensures (differing_words _ _) l.word_list in
     let t = tail_put a.first.now a.second.now refl refl c.tail16-tail.ensures c.put_tail-more.ensures in
     let p = c.put_rows-end.ensures (differing_rows (reading a.dialect a.order a.first.now) (reading a.dialect a.order a.second.now)) l.row_list in
