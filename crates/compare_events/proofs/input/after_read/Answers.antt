@@ -2,7 +2,6 @@
 use native.Mathlib.Omega.{arith}
 use mir.Syntax.{w64}
 use mir.ValLaws.{to_z-of_z}
-use borrow.Author.Rules.{rules}
 use Rattle.compare_events.proofs.Feeds.{after_told}
 use Rattle.compare_events.proofs.input.after_read.Goals as goal
 

@@ -1,10 +1,8 @@
 -- `input::count_feeds` meets its contract. Assumes nothing.
-use Prim.Native.Nat.{◌-◌, ◌≤◌}
 use native.Mathlib.Omega.{arith}
 use mathlib.Core.Path.{◌≡◌, refl}
-use lib.ListN.{length, take}
+use lib.ListN.{take}
 use lib.Seq.{take_all}
-use borrow.Author.Rules.{rules}
 use Rattle.compare_events.specs.Run.{feeds_in}
 use Rattle.compare_events.proofs.Feeds.{feeds_more, feeds_same}
 use Rattle.compare_events.proofs.input.count_feeds.Goals as goal

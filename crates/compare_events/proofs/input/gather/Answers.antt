@@ -1,9 +1,9 @@
 -- `input::gather` meets its contract. Assumes nothing.
 use native.Mathlib.Omega.{arith}
-use mathlib.Core.Path.{◌≡◌, refl, sym, ap, ◌∙◌}
+use mathlib.Core.Path.{refl, sym, ap, ◌∙◌}
 use lib.ListN.{length}
-use Rattle.compare_events.specs.Run.{Inside, goes_on}
-use Rattle.compare_events.proofs.Feeds.{none_read, left, less_left}
+use Rattle.compare_events.specs.Run.{goes_on}
+use Rattle.compare_events.proofs.Feeds.{none_read, less_left}
 use Rattle.compare_events.proofs.input.gather.Goals as goal
 
 pub loop-stdin-init : goal.loop-stdin-init

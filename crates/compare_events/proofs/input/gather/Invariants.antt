@@ -1,10 +1,8 @@
 -- `input::gather` meets its contract. Assumes nothing.
-use native.Mathlib.Omega.{arith}
-use mathlib.Core.Path.{◌≡◌, refl, sym, ap, ◌∙◌}
+use mathlib.Core.Path.{◌≡◌}
 use lib.ListN.{length}
-use borrow.Author.Rules.{rules}
-use Rattle.compare_events.specs.Run.{Inside, goes_on}
-use Rattle.compare_events.proofs.Feeds.{none_read, left, less_left}
+use Rattle.compare_events.specs.Run.{Inside}
+use Rattle.compare_events.proofs.Feeds.{left}
 use Rattle.compare_events.proofs.input.gather.Given as goal
 
 abbrev pub invariant-loop-stdin : goal.invariant-loop-stdin

@@ -2,7 +2,6 @@
 use mathlib.Core.Path.{refl}
 use mir.Syntax.{w64}
 use mir.Val.{to_z, of_z}
-use borrow.Author.Rules.{rules}
 use Rattle.compare_events.proofs.Feeds.{more_read}
 use Rattle.compare_events.proofs.input.read_more.Goals as goal
 

@@ -1,6 +1,5 @@
 -- `lines::put_by` meets its contract. Assumes nothing.
 use native.Mathlib.Omega.{arith}
-use borrow.Author.Rules.{rules}
 use Rattle.compare_events.proofs.LineLaws.{words_there, words_within, print_put}
 use Rattle.compare_events.proofs.TextLaws.{answers_most}
 use Rattle.compare_events.proofs.lines.put_by.Goals as goal

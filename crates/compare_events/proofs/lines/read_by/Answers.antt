@@ -2,7 +2,6 @@
 use native.Mathlib.Nat.{min-le_right}
 use mathlib.Core.Path.{sym, ◌∙◌}
 use lib.Seq.{length-take-le}
-use borrow.Author.Rules.{rules}
 use Rattle.compare_events.proofs.LineLaws.{line_refused, line_read}
 use Rattle.compare_events.proofs.lines.read_by.Goals as goal
 

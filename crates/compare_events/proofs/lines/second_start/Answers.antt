@@ -1,5 +1,4 @@
 -- `lines::second_start` meets its contract. Assumes nothing.
-use borrow.Author.Rules.{rules}
 use borrow.Author.Tests.{lt-ltb, le-ltb}
 use Rattle.compare_events.proofs.lines.second_start.Goals as goal
 

@@ -1,15 +1,10 @@
 -- `side16::put_lines` meets its contract. Assumes nothing.
 use Prim.Native.Nat.{◌+◌, ◌-◌, ◌*◌, ◌≤◌}
-use native.Mathlib.Omega.{arith}
-use mathlib.Core.Path.{◌≡◌, refl, ◌∙◌}
-use lib.ListN.{length, get_or, take}
-use lib.Seq.{take_all}
-use borrow.Author.Rules.{rules}
+use mathlib.Core.Path.{◌≡◌}
+use lib.ListN.{length, take}
 use Rattle.hex_line.specs.Text.{Placed}
-use Rattle.hex_line.proofs.TextLaws.{placed_none, placed_then}
 use Rattle.compare_events.specs.Lengths.{tail_length}
 use Rattle.compare_events.specs.Text.{tail_lines}
-use Rattle.compare_events.proofs.TextLaws.{tail_most, tails_next}
 use Rattle.compare_events.proofs.side16.put_lines.Given as goal
 
 abbrev pub invariant-loop-i : goal.invariant-loop-i

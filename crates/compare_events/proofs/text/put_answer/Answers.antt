@@ -1,5 +1,4 @@
 -- `text::put_answer` meets its contract. Assumes nothing.
-use borrow.Author.Rules.{rules}
 use Rattle.compare_events.proofs.text.put_answer.Goals as goal
 
 pub returns-in_default : goal.returns-in_default
