@@ -93,7 +93,8 @@ pub stopped : (o : StampOrder) (input : List ℕ) (state : Gathered) → Inside 
 stopped o input state i l = go (eqb state.last 0) refl (ltb 1 state.feeds) refl (ltb state.end (length input)) refl
   where
     go : (b : Bool) → eqb state.last 0 ≡ b → (two : Bool) → ltb 1 state.feeds ≡ two → (some : Bool) → ltb state.end (length input) ≡ some
-        → cond b false (cond two false some) ≡ false → (later : List ℕ) → (state.last ≡ 0 → later ≡ []) → printed o (take state.end input) ≡ printed o (take state.end input ++ later)
+        → cond b false (cond two false some) ≡ false → (later : List ℕ) → (state.last ≡ 0 → later ≡ [])
+        → printed o (take state.end input) ≡ printed o (take state.end input ++ later)
     go true e two f some g h later n = rw (n (eqb-true state.last 0 e), append-nil)
     go false e true f some g h later n = enough o (take state.end input) later (inl (omega (arith, ltb-true 1 state.feeds f, i.fed)))
     go false e false f true g h later n = impossible cc

@@ -9,11 +9,13 @@ use Rattle.compare_events.specs.Print.{compared_text}
 use Rattle.compare_events.specs.Example.{Longer, Stamps, Shorter, NoLine, TooLong}
 
 pub longer : Longer
-unfolding character hex_of is_digit digit_of all_digits all_groups well_formed value_of firsts field accepted_text answers_text word_text tail_line tail_text row_line rows_text end_text compared_text differences_from
+unfolding character hex_of is_digit digit_of all_digits all_groups well_formed value_of firsts field accepted_text answers_text word_text tail_line tail_text
+    row_line rows_text end_text compared_text differences_from
 longer = refl
 
 pub stamps : Stamps
-unfolding character hex_of is_digit digit_of all_digits all_groups well_formed value_of firsts field accepted_text answers_text word_text tail_line tail_text row_line rows_text end_text compared_text differences_from
+unfolding character hex_of is_digit digit_of all_digits all_groups well_formed value_of firsts field accepted_text answers_text word_text tail_line tail_text
+    row_line rows_text end_text compared_text differences_from
 stamps = refl
 
 pub shorter : Shorter

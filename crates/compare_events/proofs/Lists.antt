@@ -20,7 +20,8 @@ use Rattle.comparison.proofs.Entries.{entries_length}
 use Rattle.compare_events.proofs.TextLaws.{each_next}
 
 -- of `count` entries of a list the first i are put, as lines of n characters each
-pub record Putting {A : Type 0} (line : A → List ℕ) (n : ℕ) (entriesOf : List A → List ℕ) (list : List ℕ) (count : ℕ) (text₀ : List ℕ) (at : ℕ) (text : List ℕ) (end i : ℕ) : Type 0 where
+pub record Putting {A : Type 0} (line : A → List ℕ) (n : ℕ) (entriesOf : List A → List ℕ) (list : List ℕ) (count : ℕ) (text₀ : List ℕ) (at : ℕ) (text : List ℕ)
+    (end i : ℕ) : Type 0 where
   pub within : i ≤ count
   pub size : length text ≡ length text₀
   pub ends : end ≡ at + n * i

@@ -73,7 +73,8 @@ module _ (d : Dialect) (o : StampOrder) (a b : List ℕ) where
         }
 
   -- room for each part of the text, one behind another from `at` on
-  module _ (la : length a ≤ most_words S) (lb : length b ≤ most_words S) {m n : ℕ} {words rows : List ℕ} (l : Lists m n words rows) (at : ℕ) {size : ℕ} (h : at + compared_length ≤ size) where
+  module _ (la : length a ≤ most_words S) (lb : length b ≤ most_words S) {m n : ℕ} {words rows : List ℕ} (l : Lists m n words rows)
+      (at : ℕ) {size : ℕ} (h : at + compared_length ≤ size) where
     word_numbers : length (take (3 * m) words) / 3 ≡ length ds
     word_numbers = rw (length-take-le (3 * m) words l.word_room) (omega (arith, l.words_listed_lem))
 

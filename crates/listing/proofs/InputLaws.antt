@@ -59,13 +59,14 @@ known rest ended lines = go (eqb (length rest) 0) (leb most_lines lines) (ltb lo
     some : eqb (length rest) 0 ≡ false → 0 < length rest
     some a = positive (length rest) (eqb-false (length rest) 0 a)
 
-    go : (none most long whole e : Bool) → eqb (length rest) 0 ≡ none → leb most_lines lines ≡ most → ltb longest_line (first_line rest) ≡ long → ltb (first_line rest) (length rest) ≡ whole → ended ≡ e
-        → Known rest ended lines (next_of rest ended lines)
+    go : (none most long whole e : Bool) → eqb (length rest) 0 ≡ none → leb most_lines lines ≡ most → ltb longest_line (first_line rest) ≡ long
+        → ltb (first_line rest) (length rest) ≡ whole → ended ≡ e → Known rest ended lines (next_of rest ended lines)
     go true most long whole true a b c d f = rw (a, f) (eqb-true (length rest) 0 a, refl)
     go true most long whole false a b c d f = rw (a, f) (refl, omega (arith, eqb-true (length rest) 0 a))
     go false true long whole e a b c d f = rw (a, b) (some a, leb-true most_lines lines b)
     go false false true whole e a b c d f = rw (a, b, c) (refl, some a, leb-false most_lines lines b, ltb-true longest_line (first_line rest) c)
     go false false false whole true a b c d f = rw (a, b, c, f) (refl, some a, leb-false most_lines lines b, ltb-false longest_line (first_line rest) c, λ e. impossible cc)
-    go false false false true false a b c d f = rw (a, b, c, d, f) (refl, some a, leb-false most_lines lines b, ltb-false longest_line (first_line rest) c, λ e. ltb-true (first_line rest) (length rest) d)
+    go false false false true false a b c d f =
+        rw (a, b, c, d, f) (refl, some a, leb-false most_lines lines b, ltb-false longest_line (first_line rest) c, λ e. ltb-true (first_line rest) (length rest) d)
     go false false false false false a b c d f =
         rw (a, b, c, d, f) (refl, omega (arith, ltb-false longest_line (first_line rest) c, ltb-false (first_line rest) (length rest) d))

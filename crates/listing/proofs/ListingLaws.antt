@@ -69,14 +69,16 @@ module _ (o : StampOrder) (a r : ℕ) (line : List ℕ) (lines : List (List ℕ)
   -- a line that is not too long, with others before it that are not too many
   pub list_line : a + r < most_lines → length line ≤ longest_line
       → list_from o a r (line ∷ lines)
-      ≡ event_text (a + r + 1) (answer_of (line_rows o line)) (given (line_rows o line)) ++ list_from o (a + accepted_in (answer_of (line_rows o line))) (r + refused_in (answer_of (line_rows o line))) lines
+      ≡ event_text (a + r + 1) (answer_of (line_rows o line)) (given (line_rows o line))
+      ++ list_from o (a + accepted_in (answer_of (line_rows o line))) (r + refused_in (answer_of (line_rows o line))) lines
   unfolding list_from
   list_line h k = rw (lt-leb most_lines (a + r) h, le-ltb longest_line (length line) k)
 
   -- one that is too long
   pub list_long : a + r < most_lines → longest_line < length line
       → list_from o a r (line ∷ lines)
-      ≡ event_text (a + r + 1) (answer_of (line_rows o line)) (given (line_rows o line)) ++ last_text true (a + accepted_in (answer_of (line_rows o line))) (r + refused_in (answer_of (line_rows o line)))
+      ≡ event_text (a + r + 1) (answer_of (line_rows o line)) (given (line_rows o line))
+      ++ last_text true (a + accepted_in (answer_of (line_rows o line))) (r + refused_in (answer_of (line_rows o line)))
   unfolding list_from
   list_long h k = rw (lt-leb most_lines (a + r) h, lt-ltb longest_line (length line) k)
 

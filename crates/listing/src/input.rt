@@ -9,6 +9,7 @@ use hex_line::LONGEST_LINE;
 const MOST_LINES: u64 = 1000000;
 
 // What comes next of `rest`, where the input has ended or goes on, after so many lines.
+#[tactic(auto, unfolding(crate::specs::Input::next_of))]
 pub fn next_line(rest: &[u8], ended: bool, lines: u64) -> Next
     ensures { result ≡ next_of rest.now ended lines }
 {
@@ -35,6 +36,7 @@ pub fn next_line(rest: &[u8], ended: bool, lines: u64) -> Next
 }
 
 // How many characters stand before the first line feed, or all where there is none.
+#[tactic(auto, using(crate::proofs::InputLaws::first_here, crate::proofs::InputLaws::first_on, crate::proofs::InputLaws::first_none))]
 pub fn first_line(rest: &[u8]) -> usize
     ensures { result ≡ first_line rest.now }
 {

@@ -34,6 +34,7 @@ pub fn line_rows(
 }
 
 // The dialect of a line by its letter.
+#[tactic(auto, using(crate::proofs::LineRows::letter_none))]
 pub fn dialect_of_line(line: &[u8]) -> Dialect
     ensures { result ≡ line_dialect line.now }
 {

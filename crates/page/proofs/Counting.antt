@@ -1,6 +1,6 @@
 -- A loop that counts rows into a plane.
 -- Assumes nothing.
-use Prim.Native.Nat.{ℕ, zero, suc, ◌+◌, ◌*◌, ◌/◌, ◌%◌, ◌^◌, ◌≤◌, ◌<◌}
+use Prim.Native.Nat.{ℕ, zero, suc, ◌+◌, ◌*◌, ◌/◌, ◌%◌, ◌≤◌, ◌<◌}
 use native.Mathlib.Nat.{add-zero}
 use native.Mathlib.Numerals.{add-one}
 use native.Mathlib.Omega.{arith}
@@ -13,7 +13,7 @@ use lib.Seq.{drop-cons}
 use borrow.Author.Tests.{eq-eqb, ne_eqb, eqb-true, eqb-false}
 use Rattle.event.specs.declared.Row.{Row}
 use Rattle.event.specs.Parser.{All}
-use Rattle.event.specs.Writing.{rows_in, no_row, row_at}
+use Rattle.event.specs.Writing.{rows_in, no_row}
 use Rattle.event.proofs.RowsIn.{rows_count, row_there}
 use Rattle.page_layout.specs.Plane.{hit_kind, is_hit, hits_at, Plane, at, Shape, OnPlane}
 use Rattle.page_layout.proofs.PlaneLaws.{plane_is, put, put_shape, put_same, put_other}

@@ -19,7 +19,7 @@ use Rattle.s800_layout.specs.Reading.{reading}
 use Rattle.page_layout.specs.declared.Update.{Update}
 use Rattle.page_layout.specs.declared.Page.{Page}
 use Rattle.page_layout.specs.Plane.{table}
-use Rattle.page_layout.specs.Page.{slot_of, length_of, event_at, all_up_to, sound, if_read, adding, with_newest, added, added_room, finding, read_back}
+use Rattle.page_layout.specs.Page.{slot_of, length_of, event_at, sound, if_read, adding, with_newest, added, added_room, finding, read_back}
 use Rattle.page_layout.proofs.Tables.{table_ext}
 use Rattle.page_layout.proofs.SoundPages.{same_slot}
 
@@ -96,7 +96,10 @@ module _ (p : Page) (ws : List ℕ) (room : ℕ) where
       rw (e, lt-ltb p.count 64 h, same_slot p p.count, t)
 
   pub added_full : (n : ℕ) → adding p ws room ≡ Accepted n → 64 ≤ p.count
-      → ◌≡◌ {A = Update} (record { answer = Accepted n; page = record { first = (p.first % 64 + 1) % 64; count = p.count; lengths = set p.lengths ((p.first % 64 + p.count) % 64) (length ws) } }) (added p ws room)
+      → ◌≡◌ {A = Update} (record {
+        answer = Accepted n;
+        page = record { first = (p.first % 64 + 1) % 64; count = p.count; lengths = set p.lengths ((p.first % 64 + p.count) % 64) (length ws) };
+      }) (added p ws room)
   unfolding added with_newest
   added_full n e h = rw (e, le-ltb p.count 64 h, same_slot p p.count, same_slot p 1)
 

@@ -5,14 +5,14 @@ use native.Mathlib.Numerals.{add-one}
 use native.Mathlib.Omega.{arith}
 use mathlib.Core.Path.{◌≡◌, refl, sym, ap, ◌∙◌}
 use mathlib.Core.Bool.{Bool, true, false, cond}
-use mathlib.Core.List.{List, [], ◌∷◌}
-use lib.ListN.{length, take, drop, length-take}
+use mathlib.Core.List.{List}
+use lib.ListN.{length, drop, length-take}
 use Rattle.event.specs.declared.Answer.{Answer}
 use Rattle.event.specs.declared.Answer.TheVariants.{Accepted, Refused}
 use Rattle.event.specs.Parser.{All}
 use Rattle.event.proofs.Impossible.{impossible}
 use Rattle.page_layout.specs.declared.Page.{Page}
-use Rattle.page_layout.specs.Plane.{rows_of, table, Plane, no_hits, at, counted, Shape}
+use Rattle.page_layout.specs.Plane.{rows_of, table, no_hits, at, counted, Shape}
 use Rattle.page_layout.specs.Page.{length_of, place_of, event_at, held, sound, seeing, plane_in}
 use Rattle.page_layout.proofs.Tables.{table_length, table_snoc}
 use Rattle.page_layout.proofs.PlaneLaws.{plane_of_shape}

@@ -1,6 +1,6 @@
 -- After any calls from a cleared page, the page holds what the queue holds; and it is read back event by event.
 -- Assumes nothing.
-use Prim.Native.Nat.{ℕ, ◌+◌, ◌-◌, ◌≤◌, ◌<◌}
+use Prim.Native.Nat.{ℕ, ◌+◌, ◌≤◌, ◌<◌}
 use native.Mathlib.Omega.{arith}
 use mathlib.Core.Path.{◌≡◌, refl, sym, ap, ◌∙◌}
 use mathlib.Core.Bool.{Bool, true, false, cond, ◌&&◌}
@@ -22,7 +22,7 @@ use Rattle.page_layout.specs.Page.{dropped, finding, read_back}
 use Rattle.page_layout.specs.Claims.{Call, add, clear, State, called, called_all, from, held_in, taken, with_last, queued, queued_all, IsQueue, ReadsBack, Unchanged}
 use Rattle.page_layout.specs.Claims as claims
 use Rattle.page_layout.proofs.Tables.{table_ext}
-use Rattle.page_layout.proofs.SoundPages.{Sound, sound_is, is_sound_lem}
+use Rattle.page_layout.proofs.SoundPages.{sound_is, is_sound_lem}
 use Rattle.page_layout.proofs.Queue.{held_length, newest_joins, newest_sound, oldest_leaves, oldest_sound}
 
 -- what holds between the calls: the page is sound, and holds these events

@@ -1,6 +1,6 @@
 -- Every hit of an acceptable event is of a pad on the plane.
 -- Assumes nothing.
-use Prim.Native.Nat.{ℕ, ◌+◌, ◌*◌, ◌^◌, ◌<◌}
+use Prim.Native.Nat.{ℕ, ◌^◌, ◌<◌}
 use native.Mathlib.Omega.{arith}
 use mathlib.Core.Path.{◌≡◌, refl, subst}
 use mathlib.Core.Bool.{Bool, true, false}
@@ -12,7 +12,7 @@ use Rattle.event.specs.declared.StampOrder.{StampOrder}
 use Rattle.event.specs.Parser.{Passed, Goods, All, each}
 use Rattle.event.specs.Outcome.{Outcome, done, refused, given, default_order}
 use Rattle.event.proofs.Width.{all_append}
-use Rattle.s800_layout.specs.Event.{Datum, Pair, SampleHead, SampleDatum, Group, energies, hits, Form, trigger, time_of_flight, scintillator, ion_chamber, crdc}
+use Rattle.s800_layout.specs.Event.{Pair, SampleHead, SampleDatum, Group, energies, hits, Form, trigger, time_of_flight, scintillator, ion_chamber, crdc}
 use Rattle.s800_layout.specs.Event.{hodoscope, object_pin, vme_adc, opaque, Content, Run, end, plain}
 use Rattle.s800_layout.specs.Layout.{datum_row, pair_rows, sample_head_checks, sample_datum_row, above, ValidSampleDatum, ValidGroup, group_rows, anode_row, content_rows, run_rows}
 use Rattle.s800_layout.specs.Layout.{ValidContent, ValidRun}

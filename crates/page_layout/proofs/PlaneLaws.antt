@@ -1,16 +1,15 @@
 -- Laws of planes: what stands at each pad, one hit more, and the sum.
 -- Assumes nothing.
-use Prim.Native.Nat.{ℕ, zero, suc, ◌+◌, ◌*◌, ◌/◌, ◌%◌, ◌≤◌, ◌<◌}
+use Prim.Native.Nat.{ℕ, zero, suc, ◌+◌, ◌*◌, ◌/◌, ◌%◌, ◌<◌}
 use native.Mathlib.Omega.{arith}
 use mathlib.Core.Path.{◌≡◌, refl, sym, ap, ◌∙◌}
-use mathlib.Core.Bool.{Bool, true, false, cond, ◌&&◌}
-use mathlib.Core.Logic.{◌⊎◌, inl, inr, ⊎_elim}
+use mathlib.Core.Bool.{Bool, true, false}
 use mathlib.Core.List.{List, [], ◌∷◌}
 use lib.Dec.{eqb}
 use lib.ListN.{length, get_or, set, length-set}
 use lib.Seq.{ext_get_or, get_or-set_same, get_or-set_other}
-use borrow.Author.Tests.{eq-eqb, ne_eqb, eqb-true, eqb-false}
-use Rattle.page_layout.specs.Plane.{table, Plane, plane_of, at, Shape}
+use borrow.Author.Tests.{eqb-true, eqb-false}
+use Rattle.page_layout.specs.Plane.{Plane, plane_of, at, Shape}
 use Rattle.page_layout.proofs.Tables.{table_length, table_at}
 
 pub plane_of_shape : (f : ℕ → ℕ) → Shape (plane_of f)

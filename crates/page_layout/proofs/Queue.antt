@@ -1,23 +1,23 @@
 -- A page in its room is a queue.
 -- Assumes nothing.
 use Prim.Native.Nat.{ℕ, zero, suc, ◌+◌, ◌-◌, ◌*◌, ◌%◌, ◌≤◌, ◌<◌}
-use native.Mathlib.Nat.{zero-add, add-zero, suc-add}
+use native.Mathlib.Nat.{zero-add, suc-add}
 use native.Mathlib.Numerals.{add-one}
 use native.Mathlib.Omega.{arith}
-use mathlib.Core.Path.{◌≡◌, refl, sym, ap, ◌∙◌, subst}
-use mathlib.Core.Bool.{Bool, true, false, cond, ◌&&◌}
-use mathlib.Core.Logic.{◌⊎◌, inl, inr, ⊎_elim}
+use mathlib.Core.Path.{◌≡◌, refl, sym, ap, ◌∙◌}
+use mathlib.Core.Bool.{Bool, true, false, cond}
+use mathlib.Core.Logic.{⊎_elim}
 use mathlib.Core.List.{List, [], ◌∷◌, ◌++◌, append_assoc}
-use lib.Dec.{leb, ltb, eqb}
-use lib.ListN.{length, get_or, set, take, drop, length-set, length-take, length-drop, length-append, length-replicate, get_or-replicate}
+use lib.Dec.{ltb, eqb}
+use lib.ListN.{length, get_or, set, take, drop}
 use lib.Seq.{paste, drop-paste, drop-drop, take-append-le, take-take, length-take-le, take_at, drop_at, take-length, take-nil, get_or-set_same, get_or-set_other, length-paste}
-use borrow.Author.Tests.{ltb-true, lt-ltb, le-ltb, le-leb, lt-leb, eq-eqb, ne_eqb, eqb-true, eqb-false}
+use borrow.Author.Tests.{ltb-true, lt-ltb, le-ltb, eqb-true, eqb-false}
 use Rattle.page_layout.specs.declared.Page.{Page}
 use Rattle.page_layout.specs.Plane.{table}
-use Rattle.page_layout.specs.Page.{slot_of, place_of, length_of, event_at, held, all_up_to, sound, with_newest, without_oldest}
+use Rattle.page_layout.specs.Page.{slot_of, place_of, length_of, event_at, held, with_newest, without_oldest}
 use Rattle.page_layout.specs.Claims.{with_last}
-use Rattle.page_layout.proofs.Tables.{lt_or_ge, table_length, table_at, table_ext, table_snoc}
-use Rattle.page_layout.proofs.SoundPages.{Sound, next_slot}
+use Rattle.page_layout.proofs.Tables.{lt_or_ge, table_length, table_ext, table_snoc}
+use Rattle.page_layout.proofs.SoundPages.{Sound}
 
 -- ---- parts of a list that was pasted into
 
@@ -30,7 +30,13 @@ module _ (d : List ℕ) (at : ℕ) (s : List ℕ) (fits : at + length s ≤ leng
   part_before : (a n : ℕ) → a + n ≤ at → take n (drop a (paste d at s (length s))) ≡ take n (drop a d)
   part_before a n h =
       let l : a + n ≤ length (take at d) = rw (length-take-le at d (omega arith)) h in
-      rw (take_of_drop a n (paste d at s (length s)), take_of_drop a n d, append_assoc (take at d) (take (length s) s) (drop (at + length s) d), take-append-le (a + n) (take at d), take-take (a + n) at d)
+      rw (
+        take_of_drop a n (paste d at s (length s)),
+        take_of_drop a n d,
+        append_assoc (take at d) (take (length s) s) (drop (at + length s) d),
+        take-append-le (a + n) (take at d),
+        take-take (a + n) at d,
+      )
 
   part_after : (a n : ℕ) → at + length s ≤ a → take n (drop a (paste d at s (length s))) ≡ take n (drop a d)
   part_after a n h =
@@ -39,7 +45,12 @@ module _ (d : List ℕ) (at : ℕ) (s : List ℕ) (fits : at + length s ≤ leng
       ∙ ap (drop (a - (at + length s))) (drop-paste d at s (length s) (omega arith) (omega arith)) ∙ drop-drop (a - (at + length s)) (at + length s) d ∙ ap (λ (k : ℕ). drop k d) (sym e))
 
   part_own : take (length s) (drop at (paste d at s (length s))) ≡ s
-  part_own = rw (append_assoc (take at d) (take (length s) s) (drop (at + length s) d), drop_at (take at d) (take (length s) s ++ drop (at + length s) d) at (length-take-le at d (omega arith)), take-length s, take_at s (drop (at + length s) d) (length s) refl)
+  part_own = rw (
+    append_assoc (take at d) (take (length s) s) (drop (at + length s) d),
+    drop_at (take at d) (take (length s) s ++ drop (at + length s) d) at (length-take-le at d (omega arith)),
+    take-length s,
+    take_at s (drop (at + length s) d) (length s) refl,
+  )
 
 pub held_length : (p : Page) (room : List ℕ) → length (held p room) ≡ p.count
 unfolding held
@@ -104,11 +115,16 @@ module _ (p : Page) (room words : List ℕ) (many : length p.lengths ≡ 64) (sd
       rw (le-ltb p.count 64 h)
       (ap (λ (n : ℕ). table n (λ k. in_slot new_lens after (((p.first + 1) % 64 + k) % 64))) c
       ∙ table_snoc n (λ k. in_slot new_lens after (((p.first + 1) % 64 + k) % 64))
-      ∙ rw (last, table_ext n (λ k. in_slot new_lens after (((p.first + 1) % 64 + k) % 64)) (λ k. event_at p room (suc k)) (λ k l. ap (in_slot new_lens after) (f k) ∙ other (suc k) (omega arith) (λ e. omega arith))) refl
+      ∙ rw (
+        last,
+        table_ext n (λ k. in_slot new_lens after (((p.first + 1) % 64 + k) % 64)) (λ k. event_at p room (suc k))
+            (λ k l. ap (in_slot new_lens after) (f k) ∙ other (suc k) (omega arith) (λ e. omega arith)),
+      ) refl
       ∙ ap (λ (n : ℕ). drop 1 (table n (event_at p room)) ++ words ∷ []) (sym c))
 
   pub newest_joins : held (with_newest p (length words)) after ≡ with_last (held p room) words
-  newest_joins = ⊎_elim (λ (h : p.count < 64). rw (held_length p room, lt-ltb p.count 64 h) (more h)) (λ (h : 64 ≤ p.count). rw (held_length p room, le-ltb p.count 64 h) (full (p.count - 1) (omega arith) h)) (lt_or_ge p.count 64)
+  newest_joins = ⊎_elim (λ (h : p.count < 64). rw (held_length p room, lt-ltb p.count 64 h) (more h))
+      (λ (h : 64 ≤ p.count). rw (held_length p room, le-ltb p.count 64 h) (full (p.count - 1) (omega arith) h)) (lt_or_ge p.count 64)
 
   -- the page stays sound
   set_short : (j : ℕ) → ((j ≡ s → ⊥) → get_or p.lengths j 0 ≤ 1024) → get_or new_lens j 0 ≤ 1024

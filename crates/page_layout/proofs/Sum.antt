@@ -1,23 +1,22 @@
 -- The sum over a plane of hits is the number of hits, since every hit is of a pad on the plane. What counts nothing. The stamp order.
 -- Assumes nothing.
-use Prim.Native.Nat.{ℕ, zero, suc, ◌+◌, ◌*◌, ◌/◌, ◌%◌, ◌≤◌, ◌<◌}
-use native.Mathlib.Nat.{add-zero, zero-add}
+use Prim.Native.Nat.{ℕ, zero, suc, ◌+◌, ◌*◌, ◌/◌, ◌%◌, ◌<◌}
+use native.Mathlib.Nat.{zero-add}
 use native.Mathlib.Omega.{arith}
 use mathlib.Core.Path.{◌≡◌, refl, sym, ap, ◌∙◌, subst}
 use mathlib.Core.Bool.{Bool, true, false, cond, ◌&&◌}
 use mathlib.Core.List.{List, [], ◌∷◌, ◌++◌}
 use lib.Dec.{T, eqb}
 use lib.ListN.{length, get_or, set}
-use borrow.Author.Tests.{eq-eqb, ne_eqb, eqb-true, eqb-false}
+use borrow.Author.Tests.{eqb-true, eqb-false}
 use Rattle.event.specs.declared.Row.{Row}
 use Rattle.event.specs.declared.StampOrder.{StampOrder}
-use Rattle.event.specs.declared.StampOrder.TheVariants.{Crossed, Rising}
 use Rattle.event.specs.Parser.{Result, ok, refuse, each}
 use Rattle.event.proofs.Elements.{each_append}
-use Rattle.event.specs.Outcome.{Outcome, done, refused, outcome, given, default_order}
+use Rattle.event.specs.Outcome.{done, outcome, given, default_order}
 use Rattle.s800_layout.specs.Event.{Event}
 use Rattle.s800_layout.specs.Layout.{rows, pad}
-use Rattle.s800_layout.specs.Reading.{event_parser, reading}
+use Rattle.s800_layout.specs.Reading.{event_parser}
 use Rattle.page_layout.specs.Plane.{is_hit, rows_of, hits, hits_at, table, Plane, plane_of, at, hit_plane, counted, sum, sum_over, Shape, OnPlane}
 use Rattle.page_layout.specs.Page.{held, seeing, plane_in}
 use Rattle.page_layout.specs.Claims.{CountsHits, SumIsHits, NothingCounted, AnyOrder}
@@ -60,7 +59,8 @@ module _ (r : Row) (rs : List Row) where
             let t : r.channel ≡ p = eqb-true r.channel p q in
             rw (e, q) (ap (at more) (sym t) ∙ put_same (hit_plane rs) (plane_of_shape _) r.channel (hits_at r.channel rs + 1) h ∙ rw t (omega arith))
         go false q =
-            rw (e, q) (put_other (hit_plane rs) (plane_of_shape _) r.channel (hits_at r.channel rs + 1) h p (λ t. eqb-false r.channel p q (sym t)) ∙ plane_of_at (λ p. hits_at p rs) p l ∙ omega arith)
+            rw (e, q) (put_other (hit_plane rs) (plane_of_shape _) r.channel (hits_at r.channel rs + 1) h p (λ t. eqb-false r.channel p q (sym t))
+            ∙ plane_of_at (λ p. hits_at p rs) p l ∙ omega arith)
 
     one_more : sum_over (hit_plane (r ∷ rs)) ≡ sum_over (hit_plane rs) + 1
     one_more =

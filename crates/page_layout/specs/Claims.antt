@@ -1,6 +1,6 @@
 -- What is shown of the page (document 02, #107): it is a queue, no refusal changes it, and the plane counts the hits of the events held.
 -- Assumes nothing.
-use Rattle.std.specs.Prelude.{ℕ, ◌≤◌, ◌<◌, ◌≡◌, Bool, true, false, cond, ◌&&◌, List, [], ◌∷◌, ◌++◌, leb, ltb, length, get_or}
+use Rattle.std.specs.Prelude.{ℕ, ◌≤◌, ◌<◌, ◌≡◌, Bool, true, cond, ◌&&◌, List, [], ◌∷◌, ◌++◌, leb, ltb, length, get_or}
 use Rattle.std.proofs.Math.ListN as list
 use Rattle.event.specs.declared.Answer.TheVariants.{Accepted, Refused}
 use Rattle.event.specs.declared.StampOrder.{StampOrder}
@@ -11,7 +11,7 @@ use Rattle.s800_layout.specs.Reading.{reading}
 use Rattle.page_layout.specs.declared.Page.{Page}
 use Rattle.page_layout.specs.Plane.{rows_of, hits, hits_at, table, counted, sum_over, Shape}
 use Rattle.page_layout.specs.Page.{most_events, most_words, room_words, held, sound, cleared, adding, added, added_room, dropping, dropped, finding, read_back}
-use Rattle.page_layout.specs.Page.{seeing, plane_in}
+use Rattle.page_layout.specs.Page.{plane_in}
 
 -- The calls that change a page, and the page and the room that one leaves to the next.
 pub data Call : Type 0 where

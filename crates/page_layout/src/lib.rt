@@ -5,7 +5,7 @@ use event::Answer;
 
 // `count` events, oldest first in slots first, first + 1, .. round the 64; `lengths` has the number of words of the event in each slot. Slot s of the room is its
 // words 1,024 s to 1,024 s + 1,023. Any numbers may stand in a page.
-#[derive(Drop)]
+#[derive(Clone, Copy)]
 pub struct Page {
     pub first: usize,
     pub count: usize,
@@ -13,7 +13,7 @@ pub struct Page {
 }
 
 // What a call that may change a page answers, and the page behind it.
-#[derive(Drop)]
+#[derive(Clone, Copy)]
 pub struct Update {
     pub answer: Answer,
     pub page: Page,

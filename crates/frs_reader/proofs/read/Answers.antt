@@ -1,17 +1,7 @@
 -- `read` meets its contract. Assumes nothing.
-use Rattle.event.proofs.Stores.{read_refused, read_crowded, read_fits}
+use Rattle.event.proofs.Stores.{read_fits}
 use Rattle.frs_layout.specs.Layout.{rows}
 use Rattle.frs_reader.proofs.read.Goals as goal
-
-pub returns-in_default : goal.returns-in_default
-returns-in_default c =
-    let r = read_refused rows c.args.rows.now _ (rw c.in_default.is at c.scan-checked.ensures) in
-    record { answer = rw c.in_default.is r.answered; buffer = r.written }
-
-pub returns-then-rows-count : goal.returns-then-rows-count
-returns-then-rows-count c =
-    let r = read_crowded rows c.args.rows.now _ (rw c.in-Accepted.is at c.scan-checked.ensures) c.if-rows-count.true in
-    record { answer = r.answered; buffer = r.written }
 
 pub returns : goal.returns
 returns c =

@@ -1,35 +1,12 @@
 -- `write` meets its contract. Assumes nothing.
-use native.Mathlib.Omega.{arith}
 use Rattle.event.specs.Parser.{ended}
 use Rattle.event.specs.Writing.{rows_in}
 use Rattle.event.proofs.Leads.{accepted_scan}
-use Rattle.event.proofs.Stores.{write_uneven, write_refused, write_large, write_crowded, write_fits}
+use Rattle.event.proofs.Stores.{write_fits}
 use Rattle.frs_layout.specs.Layout.{words, largest_event}
 use Rattle.frs_layout.specs.Writing.{event_rows_up_to}
 use Rattle.frs_writer.proofs.Begun.{event_fits}
 use Rattle.frs_writer.proofs.write.Goals as goal
-
-pub returns-then-rows-ne0 : goal.returns-then-rows-ne0
-returns-then-rows-ne0 c =
-    let r = write_uneven 32 largest_event words (event_rows_up_to ended) c.args.rows.now c.args.words.now c.if-rows-ne0.true in
-    record { answer = r.answered; words = r.written }
-
-pub returns-in_default : goal.returns-in_default
-returns-in_default c =
-    let r = write_refused 32 largest_event words (event_rows_up_to ended) c.args.rows.now c.args.words.now c.if-rows-ne0.false (rw c.in_default.is at c.write_event-counted.ensures) in
-    record { answer = rw c.in_default.is r.answered; words = r.written }
-
-pub returns-then-count-gt-LARGEST_EVENT : goal.returns-then-count-gt-LARGEST_EVENT
-returns-then-count-gt-LARGEST_EVENT c =
-    let r = write_large 32 largest_event words (event_rows_up_to ended) c.args.rows.now c.args.words.now c.if-rows-ne0.false
-    (accepted_scan words (event_rows_up_to ended 0 (rows_in c.args.rows.now)) (rw c.in-Accepted.is at c.write_event-counted.ensures)) (omega (arith, c.if-count-gt-LARGEST_EVENT.true)) in
-    record { answer = r.answered; words = r.written }
-
-pub returns-then-words-count : goal.returns-then-words-count
-returns-then-words-count c =
-    let r = write_crowded 32 largest_event words (event_rows_up_to ended) c.args.rows.now c.args.words.now c.if-rows-ne0.false
-    (accepted_scan words (event_rows_up_to ended 0 (rows_in c.args.rows.now)) (rw c.in-Accepted.is at c.write_event-counted.ensures)) c.if-count-gt-LARGEST_EVENT.false c.if-words-count.true in
-    record { answer = r.answered; words = r.written }
 
 pub returns : goal.returns
 returns c =

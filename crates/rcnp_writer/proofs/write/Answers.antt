@@ -38,7 +38,7 @@ returns-then-words-count c =
 pub write_regions-requires : goal.write_regions-requires
 write_regions-requires c =
     let taken : Taken words (event 0 (rows_in c.args.rows.now)) c.in-Accepted.count = counted_taken (rows_in c.args.rows.now) c.count_words-counted.ensures c.in-Accepted.is in
-    counted_runs (rows_in c.args.rows.now) (taken)
+    counted_runs (rows_in c.args.rows.now) taken
 
 pub returns : goal.returns
 returns c =

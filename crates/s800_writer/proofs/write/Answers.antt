@@ -22,19 +22,19 @@ returns-in_default c =
 pub returns-then-count-gt-LARGEST_EVENT : goal.returns-then-count-gt-LARGEST_EVENT
 returns-then-count-gt-LARGEST_EVENT c =
     let r = write_large 16 largest_event words (event_rows_up_to c.args.order ended) c.args.rows.now c.args.words.now c.if-rows-ne0.false
-        (accepted_scan words (event_rows_up_to c.args.order ended 0 (rows_in c.args.rows.now)) (rw c.in-Accepted.is at c.write_event-counted.ensures)) c.if-count-gt-LARGEST_EVENT.true in
+    (accepted_scan words (event_rows_up_to c.args.order ended 0 (rows_in c.args.rows.now)) (rw c.in-Accepted.is at c.write_event-counted.ensures)) c.if-count-gt-LARGEST_EVENT.true in
     record { answer = r.answered; words = r.written }
 
 pub returns-then-words-count : goal.returns-then-words-count
 returns-then-words-count c =
     let r = write_crowded 16 largest_event words (event_rows_up_to c.args.order ended) c.args.rows.now c.args.words.now c.if-rows-ne0.false
-        (accepted_scan words (event_rows_up_to c.args.order ended 0 (rows_in c.args.rows.now)) (rw c.in-Accepted.is at c.write_event-counted.ensures)) c.if-count-gt-LARGEST_EVENT.false
-        c.if-words-count.true in
+    (accepted_scan words (event_rows_up_to c.args.order ended 0 (rows_in c.args.rows.now)) (rw c.in-Accepted.is at c.write_event-counted.ensures)) c.if-count-gt-LARGEST_EVENT.false
+    c.if-words-count.true in
     record { answer = r.answered; words = r.written }
 
 pub returns : goal.returns
 returns c =
     let r = write_fits 16 largest_event words (event_rows_up_to c.args.order ended) c.args.rows.now c.args.words.now c.if-rows-ne0.false
-        (accepted_scan words (event_rows_up_to c.args.order ended 0 (rows_in c.args.rows.now)) (rw c.in-Accepted.is at c.write_event-counted.ensures)) c.if-count-gt-LARGEST_EVENT.false
-        (λ e j l q small. words_fit e (record { formed = ((codes_one c.args.order).sound 0 (rows_in c.args.rows.now) e j l q).0; size = small })) c.if-words-count.false c.write_event.ensures in
+    (accepted_scan words (event_rows_up_to c.args.order ended 0 (rows_in c.args.rows.now)) (rw c.in-Accepted.is at c.write_event-counted.ensures)) c.if-count-gt-LARGEST_EVENT.false
+    (λ e j l q small. words_fit e (record { formed = ((codes_one c.args.order).sound 0 (rows_in c.args.rows.now) e j l q).0; size = small })) c.if-words-count.false c.write_event.ensures in
     record { answer = r.answered; words = r.written }

@@ -1,31 +1,12 @@
 -- `module::store_values` meets its contract. Assumes nothing.
 use Prim.Native.Nat.{◌+◌, ◌<◌}
 use native.Mathlib.Omega.{arith}
-use mathlib.Core.Path.{◌≡◌, refl, sym, ◌∙◌}
+use mathlib.Core.Path.{◌≡◌, sym, ◌∙◌}
 use lib.ListN.{length}
-use lib.Seq.{slice_empty}
 use Rattle.event.proofs.RowStores.{stored_next, stored_enough}
 use borrow.Author.Rules.{rules}
 use Rattle.frs_reader.proofs.module.store_values.Invariants.{row_of}
 use Rattle.frs_reader.proofs.module.store_values.Goals as goal
-
-pub loop-i-init : goal.loop-i-init
-loop-i-init c =
-    let first = c.args.first in
-    let z : first + 0 ≡ first = omega arith in
-    (search rules, refl, rw (z, slice_empty first c.args.words.now))
-
-pub overflow_add-at : goal.overflow_add-at
-overflow_add-at c = omega (arith, c.fitting-most.ensures)
-
-pub overflow_add-first : goal.overflow_add-first
-overflow_add-first c = omega (arith, c.fitting-most.ensures)
-
-pub word-requires : goal.word-requires
-word-requires c = omega (arith, c.fitting-most.ensures)
-
-pub store_value-requires : goal.store_value-requires
-store_value-requires c = rw c.loop-i.invariant.1 (omega (arith, c.fitting-most.ensures))
 
 pub loop-i-preserved : goal.loop-i-preserved
 loop-i-preserved c =
@@ -33,9 +14,6 @@ loop-i-preserved c =
     let v = c.loop-i.invariant in
     let inside : e.first + c.loop-i.i < length (c.args.words.now) = omega (arith, c.fitting-most.ensures, c.requires) in
     (search rules, c.store_value.auto.rows ∙ v.1, stored_next (row_of e.geo) (c.args.words.now) e.first e.at (c.args.rows.now) c.loop-i.i inside v.2 c.word.ensures c.store_value.ensures)
-
-pub shape_of-rows : goal.shape_of-rows
-shape_of-rows c = c.loop-i.invariant.1
 
 pub returns : goal.returns
 returns c =

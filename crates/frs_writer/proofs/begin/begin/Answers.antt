@@ -23,9 +23,6 @@ returns-in_default c = scaler_refused (rows_in c.args.rows.now) c.args.words.now
 pub overflow_add-at : goal.overflow_add-at
 overflow_add-at c = omega (arith, (rw c.in-Done.is at c.write_scaler-written.ensures).within, rows_count c.args.rows.now)
 
-pub write_pattern_unit-written-requires : goal.write_pattern_unit-written-requires
-write_pattern_unit-written-requires c = (rw c.in-Done.is at c.write_scaler-written.ensures).within.0
-
 pub returns-in_default-written : goal.returns-in_default-written
 returns-in_default-written c =
     pattern_refused (rows_in c.args.rows.now) c.args.words.now c.row_at-row.ensures (sym c.if-number-ne0.false ∙ c.stamp_fault-number.ensures)

@@ -9,9 +9,6 @@ use Rattle.frs_writer.proofs.begin.write_scalers.Goals as goal
 pub loop-index-init : goal.loop-index-init
 loop-index-init c = begin (omega arith, refl) c.requires.1 (omega arith)
 
-pub shape_of-words-then-number-ne0 : goal.shape_of-words-then-number-ne0
-shape_of-words-then-number-ne0 c = c.loop-index.invariant.same
-
 pub returns-then-number-ne0 : goal.returns-then-number-ne0
 returns-then-number-ne0 c = scaler_refused c.loop-index.invariant c.loop-index-test.true c.row_at-row.ensures _ c.scaler_fault-number.ensures c.if-number-ne0.true c.refuse_part.ensures
 
@@ -24,9 +21,6 @@ overflow_add-at c = omega (arith, c.loop-index.invariant.few, c.loop-index.invar
 pub loop-index-preserved : goal.loop-index-preserved
 loop-index-preserved c = scaler_taken c.loop-index.invariant c.loop-index-test.true c.row_at-row.ensures (sym c.if-number-ne0.false ∙ c.scaler_fault-number.ensures) c.store_word32.ensures
     c.store_word32.auto.words
-
-pub shape_of-words : goal.shape_of-words
-shape_of-words c = c.loop-index.invariant.same
 
 pub returns : goal.returns
 returns c = scalers_done c.loop-index.invariant c.loop-index-test.false

@@ -15,9 +15,6 @@ overflow_add-first c = omega (arith, c.loop-k.invariant.0.reached.inside, rows_c
 pub overflow_add-first-then-number-ne0 : goal.overflow_add-first-then-number-ne0
 overflow_add-first-then-number-ne0 c = omega (arith, c.loop-k.invariant.0.reached.inside, rows_count c.args.rows.now)
 
-pub shape_of-words-then-number-ne0 : goal.shape_of-words-then-number-ne0
-shape_of-words-then-number-ne0 c = c.loop-k.invariant.0.reached.same
-
 pub returns-then-number-ne0 : goal.returns-then-number-ne0
 returns-then-number-ne0 c = value_refused _ c.loop-k.invariant.0.reached (omega (arith, c.loop-k-test.true)) c.row_at-row.ensures _ c.value_fault-number.ensures c.if-number-ne0.true
     c.refuse_part.ensures
@@ -31,15 +28,6 @@ overflow_add-row c = omega (arith, value_fields _ _ _ (sym c.if-number-ne0.false
 pub longword-word-requires : goal.longword-word-requires
 longword-word-requires c = (c.loop-k.invariant.1, omega arith, omega (arith, value_fields _ _ _ (sym c.if-number-ne0.false ∙ c.value_fault-number.ensures)))
 
-pub overflow_add-k : goal.overflow_add-k
-overflow_add-k c = omega (arith, c.loop-k.invariant.0.reached.few, c.loop-k.invariant.0.reached.inside, rows_count c.args.rows.now)
-
-pub overflow_add-k-in-loop-k : goal.overflow_add-k-in-loop-k
-overflow_add-k-in-loop-k c = omega (arith, c.loop-k-test.true)
-
-pub loop-k-smaller : goal.loop-k-smaller
-loop-k-smaller c = omega (arith, c.loop-k-test.true)
-
 pub loop-k-preserved : goal.loop-k-preserved
 loop-k-preserved c = (
   values_next _ c.loop-k.invariant.0 c.loop-k-test.true c.row_at-row.ensures (sym c.if-number-ne0.false ∙ c.value_fault-number.ensures) c.longword-word.ensures
@@ -49,12 +37,6 @@ loop-k-preserved c = (
 
 pub overflow_add-result : goal.overflow_add-result
 overflow_add-result c = omega (arith, c.loop-k.invariant.0.reached.inside, rows_count c.args.rows.now)
-
-pub overflow_add-result-2 : goal.overflow_add-result-2
-overflow_add-result-2 c = omega (arith, c.loop-k.invariant.0.reached.few, c.loop-k.invariant.0.reached.inside, rows_count c.args.rows.now)
-
-pub shape_of-words : goal.shape_of-words
-shape_of-words c = c.loop-k.invariant.0.reached.same
 
 pub returns : goal.returns
 returns c = values_done _ c.loop-k.invariant.0.reached (omega (arith, c.loop-k-test.false))

@@ -1,12 +1,6 @@
 -- `whole::write_event` meets its contract. Assumes nothing.
-use Rattle.frs_writer.proofs.Begun.{head_refused, modules_there, event_refused, event_laid}
+use Rattle.frs_writer.proofs.Begun.{event_refused, event_laid}
 use Rattle.frs_writer.proofs.whole.write_event.Goals as goal
-
-pub write_modules-written-requires : goal.write_modules-written-requires
-write_modules-written-requires c = modules_there c.begin-written.ensures c.in-Done.is
-
-pub returns-in-Refused : goal.returns-in-Refused
-returns-in-Refused c = head_refused c.begin-written.ensures _ c.in-Refused.is
 
 pub returns-in-Refused-written : goal.returns-in-Refused-written
 returns-in-Refused-written c = event_refused c.begin-written.ensures c.in-Done.is c.write_modules-written.ensures c.in-Refused-written.is

@@ -1,16 +1,8 @@
 -- `whole::write_modules` meets its contract. Assumes nothing.
 use native.Mathlib.Omega.{arith}
-use Rattle.event.proofs.ChannelLaws.{blocked_none}
 use Rattle.event.proofs.RowsIn.{rows_count}
-use Rattle.event.proofs.Turns.{begin}
 use Rattle.frs_writer.proofs.Modules.{modules_done, module_refused, module_within, module_taken}
 use Rattle.frs_writer.proofs.whole.write_modules.Goals as goal
-
-pub loop-i-init : goal.loop-i-init
-loop-i-init c = begin blocked_none c.requires.0 c.requires.1
-
-pub write_module-written-requires : goal.write_module-written-requires
-write_module-written-requires c = omega (arith, c.loop-i.invariant.inside)
 
 pub returns-in_default : goal.returns-in_default
 returns-in_default c = module_refused c.loop-i.invariant (omega (arith, c.loop-i-test.true, rows_count c.args.rows.now)) c.part_start-start.ensures c.write_module-written.ensures _
@@ -27,9 +19,6 @@ loop-i-smaller c = let f = module_within c.loop-i.invariant (omega (arith, c.loo
 pub loop-i-preserved : goal.loop-i-preserved
 loop-i-preserved c = module_taken c.loop-i.invariant (omega (arith, c.loop-i-test.true, rows_count c.args.rows.now)) c.part_start-start.ensures c.write_module-written.ensures c.in-Done.is
     c.row_at-row.ensures c.with_channel-seen.ensures
-
-pub shape_of-words : goal.shape_of-words
-shape_of-words c = c.loop-i.invariant.same
 
 pub returns : goal.returns
 returns c = modules_done c.loop-i.invariant (omega (arith, c.loop-i-test.false, rows_count c.args.rows.now))

@@ -37,7 +37,7 @@ regions-preserved-in-Whole c =
     let more : false ≡ at_sum (drop c.regions.at c.args.words.now) = sym c.if-at_sum.false ∙ c.at_sum.ensures in
     let read : Whole region_rows (region c.regions.at (drop c.regions.at c.args.words.now)) c.args.words.now c.regions.count c.regions.rows c.open_region-opened.new.rows c.in-Whole.next
     c.in-Whole.so_far = (subst (Opens c.args.words.now c.regions.at c.regions.count c.regions.rows c.open_region-opened.new.rows) c.in-Whole.is c.open_region-opened.ensures).opened in
-    region_taken so_far more (read)
+    region_taken so_far more read
 
 pub overflow_add-at : goal.overflow_add-at
 overflow_add-at c =

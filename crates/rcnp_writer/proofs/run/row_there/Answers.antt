@@ -66,4 +66,4 @@ bounds-rows-i-4 c =
 pub returns : goal.returns
 returns c =
     let inside : c.args.at < length c.args.rows.now / 4 = omega (arith, c.requires, rows_count c.args.rows.now) in
-    row_there c.args.rows.now c.args.at (inside)
+    row_there c.args.rows.now c.args.at inside

@@ -15,7 +15,7 @@ returns-in_default c = count_refused (rows_in c.args.rows.now) c.judge_rows-coun
 pub row_sum-requires : goal.row_sum-requires
 row_sum-requires c =
     let taken : Taken words (parts_with (finish 21) 0 (rows_in c.args.rows.now)) c.in-Accepted.count = count_taken (rows_in c.args.rows.now) c.judge_rows-counted.ensures c.in-Accepted.is in
-    taken_runs (rows_in c.args.rows.now) (taken)
+    taken_runs (rows_in c.args.rows.now) taken
 
 pub overflow_sub-result : goal.overflow_sub-result
 overflow_sub-result c =

@@ -18,4 +18,4 @@ overflow_add-result c = omega (arith, rows_count c.args.rows.now, hits_inside (r
 pub returns : goal.returns
 returns c =
     hits_taken (rows_in c.args.rows.now) c.args.at c.row_at-row.ensures (sym c.if-number-ne0.false ∙ c.limits_fault-number.ensures) c.requires c.store_word16.ensures c.store_word16-2.ensures
-        c.store_word16-3.ensures
+    c.store_word16-3.ensures

@@ -12,7 +12,7 @@ overflow_add-own c = omega (arith, rows_count c.args.rows.now, c.requires.0)
 pub returns-then-id-eq-HITS_ID : goal.returns-then-id-eq-HITS_ID
 returns-then-id-eq-HITS_ID c =
     packet_closed hodoscope c.args.id (rows_in c.args.rows.now) c.args.own (hits_content_lem (rows_in c.args.rows.now) c.args.own c.if-id-eq-HITS_ID.true c.store_word16.ensures
-        c.write_hits-hits.ensures) c.close.ensures.part c.close.ensures.words
+    c.write_hits-hits.ensures) c.close.ensures.part c.close.ensures.words
 
 pub overflow_add-own-2 : goal.overflow_add-own-2
 overflow_add-own-2 c = omega (arith, rows_count c.args.rows.now, c.requires.0)
@@ -23,4 +23,4 @@ write_channels-written-requires c = (record { inside = omega (arith, c.requires.
 pub returns : goal.returns
 returns c =
     packet_closed hodoscope c.args.id (rows_in c.args.rows.now) c.args.own (energies_content_lem (rows_in c.args.rows.now) c.args.own c.args.id c.if-id-eq-HITS_ID.false c.energies.ensures
-        c.store_word16.ensures c.write_channels-written.ensures) c.close-2.ensures.part c.close-2.ensures.words
+    c.store_word16.ensures c.write_channels-written.ensures) c.close-2.ensures.part c.close-2.ensures.words

@@ -15,4 +15,4 @@ write_channels-written-requires c = (record { inside = omega (arith, c.requires)
 pub returns : goal.returns
 returns c =
     packet_closed ion_chamber 0 (rows_in c.args.rows.now) c.args.own (chamber_content (rows_in c.args.rows.now) c.args.own c.energies.ensures c.write_channels-written.ensures
-        c.close-inner.ensures.part c.close-inner.ensures.words) c.close.ensures.part c.close.ensures.words
+    c.close-inner.ensures.part c.close-inner.ensures.words) c.close.ensures.part c.close.ensures.words

@@ -17,17 +17,21 @@ overflow_add-own-then-number-ne0 c = omega (arith, rows_count c.args.rows.now, c
 pub returns-then-number-ne0 : goal.returns-then-number-ne0
 returns-then-number-ne0 c =
     packet_refused object_pin 0 (rows_in c.args.rows.now) c.args.own (pin_refused (rows_in c.args.rows.now) c.args.own c.row_at-row.ensures c.energies-format.ensures c.channel_fault-number.ensures
-        c.if-number-ne0.true) c.refuse_part.ensures
+    c.if-number-ne0.true) c.refuse_part.ensures
 
 pub channel_word-requires : goal.channel_word-requires
 channel_word-requires c = let s = sound c.energies-format.result 0 _ (sym c.if-number-ne0.false ∙ c.channel_fault-number.ensures) in (omega (arith, rw c.energies-format.ensures at s.low), s.number)
 
 pub overflow_add-own-2 : goal.overflow_add-own-2
 overflow_add-own-2 c =
-    omega (arith, rows_count c.args.rows.now, pin_inside (rows_in c.args.rows.now) c.args.own c.row_at-row.ensures c.energies-format.ensures
-        (sym c.if-number-ne0.false ∙ c.channel_fault-number.ensures))
+    omega (
+      arith,
+      rows_count c.args.rows.now,
+      pin_inside (rows_in c.args.rows.now) c.args.own c.row_at-row.ensures c.energies-format.ensures
+          (sym c.if-number-ne0.false ∙ c.channel_fault-number.ensures),
+    )
 
 pub returns : goal.returns
 returns c =
     packet_closed object_pin 0 (rows_in c.args.rows.now) c.args.own (pin_content (rows_in c.args.rows.now) c.args.own c.row_at-row.ensures c.energies-format.ensures
-        (sym c.if-number-ne0.false ∙ c.channel_fault-number.ensures) c.channel_word.ensures c.store_word16.ensures) c.close.ensures.part c.close.ensures.words
+    (sym c.if-number-ne0.false ∙ c.channel_fault-number.ensures) c.channel_word.ensures c.store_word16.ensures) c.close.ensures.part c.close.ensures.words

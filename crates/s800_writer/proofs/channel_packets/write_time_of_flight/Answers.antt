@@ -15,4 +15,4 @@ write_channels-times-requires c = (record { inside = omega (arith, c.requires); 
 pub returns : goal.returns
 returns c =
     packet_closed time_of_flight 0 (rows_in c.args.rows.now) c.args.own (flight_content (rows_in c.args.rows.now) c.args.own c.flight_times.ensures c.write_channels-times.ensures) c.close.ensures.part
-        c.close.ensures.words
+    c.close.ensures.words

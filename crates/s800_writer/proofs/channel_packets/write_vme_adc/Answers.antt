@@ -15,4 +15,4 @@ write_channels-written-requires c = (record { inside = omega (arith, c.requires.
 pub returns : goal.returns
 returns c =
     packet_closed vme_adc c.args.id (rows_in c.args.rows.now) c.args.own (adc_content (rows_in c.args.rows.now) c.args.own c.args.id c.adc_energies.ensures c.store_word16.ensures
-        c.write_channels-written.ensures) c.close.ensures.part c.close.ensures.words
+    c.write_channels-written.ensures) c.close.ensures.part c.close.ensures.words

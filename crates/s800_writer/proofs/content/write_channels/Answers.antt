@@ -27,23 +27,35 @@ channel_word-requires c = let s = sound c.args.format _ _ (sym c.if-number-ne0.f
 
 pub overflow_add-at : goal.overflow_add-at
 overflow_add-at c =
-    omega (arith, c.loop-format.invariant.few, rows_count c.args.rows.now, channels_inside c.args.format c.loop-format.invariant c.requires.1 (sym c.loop-format-test.true ∙ c.before_kind.ensures)
-        c.row_at-row.ensures (sym c.if-number-ne0.false ∙ c.channel_fault-number.ensures))
+    omega (
+      arith,
+      c.loop-format.invariant.few,
+      rows_count c.args.rows.now,
+      channels_inside c.args.format c.loop-format.invariant c.requires.1 (sym c.loop-format-test.true ∙ c.before_kind.ensures)
+          c.row_at-row.ensures (sym c.if-number-ne0.false ∙ c.channel_fault-number.ensures),
+    )
 
 pub overflow_add-i : goal.overflow_add-i
 overflow_add-i c =
-    omega (arith, rows_count c.args.rows.now, channels_inside c.args.format c.loop-format.invariant c.requires.1 (sym c.loop-format-test.true ∙ c.before_kind.ensures) c.row_at-row.ensures
-        (sym c.if-number-ne0.false ∙ c.channel_fault-number.ensures))
+    omega (
+      arith,
+      rows_count c.args.rows.now,
+      channels_inside c.args.format c.loop-format.invariant c.requires.1 (sym c.loop-format-test.true ∙ c.before_kind.ensures) c.row_at-row.ensures
+          (sym c.if-number-ne0.false ∙ c.channel_fault-number.ensures),
+    )
 
 pub loop-format-smaller : goal.loop-format-smaller
 loop-format-smaller c =
-    omega (arith, channels_inside c.args.format c.loop-format.invariant c.requires.1 (sym c.loop-format-test.true ∙ c.before_kind.ensures) c.row_at-row.ensures
-        (sym c.if-number-ne0.false ∙ c.channel_fault-number.ensures))
+    omega (
+      arith,
+      channels_inside c.args.format c.loop-format.invariant c.requires.1 (sym c.loop-format-test.true ∙ c.before_kind.ensures) c.row_at-row.ensures
+          (sym c.if-number-ne0.false ∙ c.channel_fault-number.ensures),
+    )
 
 pub loop-format-preserved : goal.loop-format-preserved
 loop-format-preserved c =
     channels_step c.args.format c.loop-format.invariant c.requires.1 (sym c.loop-format-test.true ∙ c.before_kind.ensures) c.row_at-row.ensures
-        (sym c.if-number-ne0.false ∙ c.channel_fault-number.ensures) refl c.with_channel-blocked.ensures c.channel_word.ensures c.store_word16.ensures c.store_word16.auto.words
+    (sym c.if-number-ne0.false ∙ c.channel_fault-number.ensures) refl c.with_channel-blocked.ensures c.channel_word.ensures c.store_word16.ensures c.store_word16.auto.words
 
 pub shape_of-words : goal.shape_of-words
 shape_of-words c = c.loop-format.invariant.same

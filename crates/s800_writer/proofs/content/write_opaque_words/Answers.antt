@@ -19,13 +19,22 @@ returns-then-number-ne0 c = opaques_stop c.loop-row.invariant (sym c.loop-row-te
 
 pub overflow_add-at : goal.overflow_add-at
 overflow_add-at c =
-    omega (arith, c.loop-row.invariant.few, rows_count c.args.rows.now, opaques_inside c.loop-row.invariant (sym c.loop-row-test.true ∙ c.before_kind.ensures) c.row_at-row.ensures
-        (sym c.if-number-ne0.false ∙ c.limits_fault-number.ensures))
+    omega (
+      arith,
+      c.loop-row.invariant.few,
+      rows_count c.args.rows.now,
+      opaques_inside c.loop-row.invariant (sym c.loop-row-test.true ∙ c.before_kind.ensures) c.row_at-row.ensures
+          (sym c.if-number-ne0.false ∙ c.limits_fault-number.ensures),
+    )
 
 pub overflow_add-i : goal.overflow_add-i
 overflow_add-i c =
-    omega (arith, rows_count c.args.rows.now, opaques_inside c.loop-row.invariant (sym c.loop-row-test.true ∙ c.before_kind.ensures) c.row_at-row.ensures
-        (sym c.if-number-ne0.false ∙ c.limits_fault-number.ensures))
+    omega (
+      arith,
+      rows_count c.args.rows.now,
+      opaques_inside c.loop-row.invariant (sym c.loop-row-test.true ∙ c.before_kind.ensures) c.row_at-row.ensures
+          (sym c.if-number-ne0.false ∙ c.limits_fault-number.ensures),
+    )
 
 pub loop-row-smaller : goal.loop-row-smaller
 loop-row-smaller c =
@@ -34,7 +43,7 @@ loop-row-smaller c =
 pub loop-row-preserved : goal.loop-row-preserved
 loop-row-preserved c =
     opaques_step c.loop-row.invariant (sym c.loop-row-test.true ∙ c.before_kind.ensures) c.row_at-row.ensures (sym c.if-number-ne0.false ∙ c.limits_fault-number.ensures) c.store_word16.ensures
-        c.store_word16.auto.words
+    c.store_word16.auto.words
 
 pub shape_of-words : goal.shape_of-words
 shape_of-words c = c.loop-row.invariant.same

@@ -49,21 +49,21 @@ pub overflow_add-at : goal.overflow_add-at
 overflow_add-at c =
     let faultless : 0 ≡ sample_datum_fault (sample_head_of c.args.head) c.loop-head.least c.row_at-row.result = sym c.if-number-ne0.false ∙ c.sample_datum_fault-number.ensures in
     let inside : c.loop-head.i < length (rows_in c.args.rows.now) = (datum_taken (sample_head_of c.args.head) c.loop-head.least c.row_at-row.result (rows_in c.args.rows.now) c.loop-head.i
-        c.row_at-row.ensures faultless).0 in
+    c.row_at-row.ensures faultless).0 in
     omega (arith, c.loop-head.invariant.few, rows_count c.args.rows.now, inside)
 
 pub overflow_add-i : goal.overflow_add-i
 overflow_add-i c =
     let faultless : 0 ≡ sample_datum_fault (sample_head_of c.args.head) c.loop-head.least c.row_at-row.result = sym c.if-number-ne0.false ∙ c.sample_datum_fault-number.ensures in
     let inside : c.loop-head.i < length (rows_in c.args.rows.now) = (datum_taken (sample_head_of c.args.head) c.loop-head.least c.row_at-row.result (rows_in c.args.rows.now) c.loop-head.i
-        c.row_at-row.ensures faultless).0 in
+    c.row_at-row.ensures faultless).0 in
     omega (arith, rows_count c.args.rows.now, inside)
 
 pub loop-head-smaller : goal.loop-head-smaller
 loop-head-smaller c =
     let faultless : 0 ≡ sample_datum_fault (sample_head_of c.args.head) c.loop-head.least c.row_at-row.result = sym c.if-number-ne0.false ∙ c.sample_datum_fault-number.ensures in
     let inside : c.loop-head.i < length (rows_in c.args.rows.now) = (datum_taken (sample_head_of c.args.head) c.loop-head.least c.row_at-row.result (rows_in c.args.rows.now) c.loop-head.i
-        c.row_at-row.ensures faultless).0 in
+    c.row_at-row.ensures faultless).0 in
     omega (arith, inside)
 
 pub loop-head-preserved : goal.loop-head-preserved

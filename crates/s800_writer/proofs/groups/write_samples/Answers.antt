@@ -84,7 +84,7 @@ pub loop-head-smaller : goal.loop-head-smaller
 loop-head-smaller c =
     let faultless : 0 ≡ limits_fault 8 511 63 0 c.row_at-head.result = sym c.if-number-ne0.false ∙ c.limits_fault-number.ensures in
     let next : (c.loop-head.i + 1 ≤ c.in-Done.next) × (c.in-Done.next ≤ length (rows_in c.args.rows.now)) × (c.in-Done.count ≤ 4 * c.in-Done.next) = groups_next c.loop-head.invariant
-        c.row_at-head.ensures faultless c.write_data-data.ensures c.in-Done.is in
+    c.row_at-head.ensures faultless c.write_data-data.ensures c.in-Done.is in
     omega (arith, next)
 
 pub loop-head-preserved : goal.loop-head-preserved

@@ -12,7 +12,7 @@ use Rattle.s800_writer.proofs.other_packets.write_anode.Goals as goal
 pub returns-then-number-ne0 : goal.returns-then-number-ne0
 returns-then-number-ne0 c =
     writes_refused 16 (λ a. framed anode_tag (anode_words a)) (anode_refused (rows_in c.args.rows.now) c.args.from c.row_at-row.ensures c.limits_fault-number.ensures c.if-number-ne0.true)
-        c.refuse_part.ensures
+    c.refuse_part.ensures
 
 pub overflow_add-at : goal.overflow_add-at
 overflow_add-at c =
@@ -37,4 +37,4 @@ close-requires c =
 pub returns : goal.returns
 returns c =
     anode_taken (rows_in c.args.rows.now) c.args.from c.row_at-row.ensures (sym c.if-number-ne0.false ∙ c.limits_fault-number.ensures) c.requires.few c.store_word16.ensures c.store_word16-2.ensures
-        refl c.close.ensures.part c.close.ensures.words
+    refl c.close.ensures.part c.close.ensures.words

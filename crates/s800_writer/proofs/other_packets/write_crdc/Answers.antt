@@ -17,7 +17,7 @@ overflow_add-own-then-number-ne0 c = omega (arith, rows_count c.args.rows.now, c
 pub returns-then-number-ne0 : goal.returns-then-number-ne0
 returns-then-number-ne0 c =
     packet_refused crdc c.args.id (rows_in c.args.rows.now) c.args.own (threshold_refused c.args.id (rows_in c.args.rows.now) c.args.own c.row_at-threshold.ensures c.limits_fault-number.ensures
-        c.if-number-ne0.true) c.refuse_part.ensures
+    c.if-number-ne0.true) c.refuse_part.ensures
 
 pub overflow_add-own-2 : goal.overflow_add-own-2
 overflow_add-own-2 c =
@@ -25,23 +25,26 @@ overflow_add-own-2 c =
 
 pub write_samples-written-requires : goal.write_samples-written-requires
 write_samples-written-requires c =
-    record { inside = omega (arith, (threshold_inside c.args.id (rows_in c.args.rows.now) c.args.own c.row_at-threshold.ensures (sym c.if-number-ne0.false ∙ c.limits_fault-number.ensures))); few =
-        omega arith }
+    record {
+      inside = omega (arith, (threshold_inside c.args.id (rows_in c.args.rows.now) c.args.own c.row_at-threshold.ensures (sym c.if-number-ne0.false ∙ c.limits_fault-number.ensures)));
+      few =
+          omega arith;
+    }
 
 pub returns-in_default : goal.returns-in_default
 returns-in_default c =
     packet_refused crdc c.args.id (rows_in c.args.rows.now) c.args.own (samples_refused c.args.id (rows_in c.args.rows.now) c.args.own c.row_at-threshold.ensures
-        (sym c.if-number-ne0.false ∙ c.limits_fault-number.ensures) _ c.store_word16-2.ensures c.write_samples-written.ensures c.close-samples.ensures.part c.close-samples.ensures.words
-        c.in_default.is) c.in_default.is
+    (sym c.if-number-ne0.false ∙ c.limits_fault-number.ensures) _ c.store_word16-2.ensures c.write_samples-written.ensures c.close-samples.ensures.part c.close-samples.ensures.words
+    c.in_default.is) c.in_default.is
 
 pub write_anode-anode-requires : goal.write_anode-anode-requires
 write_anode-anode-requires c =
     let w = samples_within c.args.id (rows_in c.args.rows.now) c.args.own c.row_at-threshold.ensures (sym c.if-number-ne0.false ∙ c.limits_fault-number.ensures) _ c.store_word16-2.ensures
-        c.write_samples-written.ensures c.close-samples.ensures.part c.close-samples.ensures.words c.in-Done.is in
+    c.write_samples-written.ensures c.close-samples.ensures.part c.close-samples.ensures.words c.in-Done.is in
     record { inside = w.0; few = w.1 }
 
 pub returns : goal.returns
 returns c =
     packet_closed crdc c.args.id (rows_in c.args.rows.now) c.args.own (crdc_content c.args.id (rows_in c.args.rows.now) c.args.own c.row_at-threshold.ensures
-        (sym c.if-number-ne0.false ∙ c.limits_fault-number.ensures) _ c.store_word16-2.ensures c.write_samples-written.ensures c.close-samples.ensures.part c.close-samples.ensures.words c.in-Done.is
-        c.store_word16.ensures c.write_anode-anode.ensures) c.close.ensures.part c.close.ensures.words
+    (sym c.if-number-ne0.false ∙ c.limits_fault-number.ensures) _ c.store_word16-2.ensures c.write_samples-written.ensures c.close-samples.ensures.part c.close-samples.ensures.words c.in-Done.is
+    c.store_word16.ensures c.write_anode-anode.ensures) c.close.ensures.part c.close.ensures.words

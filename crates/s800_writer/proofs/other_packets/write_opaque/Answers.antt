@@ -15,4 +15,4 @@ write_opaque_words-content-requires c = record { inside = omega (arith, c.requir
 pub returns : goal.returns
 returns c =
     λ k e. packet_closed (opaque k) 0 (rows_in c.args.rows.now) c.args.own (opaque_content (rows_in c.args.rows.now) c.args.own k c.write_opaque_words-content.ensures) c.close.ensures.part
-        (rw e at c.close.ensures.words)
+    (rw e at c.close.ensures.words)

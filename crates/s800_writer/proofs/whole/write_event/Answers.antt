@@ -19,34 +19,34 @@ returns-in-Refused c = stamp_laid c.args.order (rows_in c.args.rows.now) c.write
 pub returns-in-Refused-number : goal.returns-in-Refused-number
 returns-in-Refused-number c =
     let stamped : Stamped c.args.order (rows_in c.args.rows.now) c.args.words.now (withPart c.part_start-at.result c.store_word16.new.words c.write_stamp-stamp.new.part) = stamp_done c.args.order
-        (rows_in c.args.rows.now) c.args.words.now c.store_word16.ensures c.part_start-at.ensures refl c.write_stamp-stamp.ensures c.in_default.is refl in
+    (rows_in c.args.rows.now) c.args.words.now c.store_word16.ensures c.part_start-at.ensures refl c.write_stamp-stamp.ensures c.in_default.is refl in
     number_laid c.args.order (rows_in c.args.rows.now) stamped c.write_number-number.ensures c.in-Refused-number.is
 
 pub write_packets-packets-requires : goal.write_packets-packets-requires
 write_packets-packets-requires c =
     let stamped : Stamped c.args.order (rows_in c.args.rows.now) c.args.words.now (withPart c.part_start-at.result c.store_word16.new.words c.write_stamp-stamp.new.part) = stamp_done c.args.order
-        (rows_in c.args.rows.now) c.args.words.now c.store_word16.ensures c.part_start-at.ensures refl c.write_stamp-stamp.ensures c.in_default.is refl in
+    (rows_in c.args.rows.now) c.args.words.now c.store_word16.ensures c.part_start-at.ensures refl c.write_stamp-stamp.ensures c.in_default.is refl in
     let begun : Begun c.args.order (rows_in c.args.rows.now) c.args.words.now ((withPart c.part_start-at-2.result
-        (withPart c.part_start-at.result c.store_word16.new.words c.write_stamp-stamp.new.part) c.write_number-number.new.part)) = number_done c.args.order (rows_in c.args.rows.now) c.args.words.now
-        stamped c.part_start-at-2.ensures refl c.write_number-number.ensures c.in_default-number.is refl in
+    (withPart c.part_start-at.result c.store_word16.new.words c.write_stamp-stamp.new.part) c.write_number-number.new.part)) = number_done c.args.order (rows_in c.args.rows.now) c.args.words.now
+    stamped c.part_start-at-2.ensures refl c.write_number-number.ensures c.in_default-number.is refl in
     record { inside = begun.inside; few = omega arith }
 
 pub returns-in-Refused-event : goal.returns-in-Refused-event
 returns-in-Refused-event c =
     let stamped : Stamped c.args.order (rows_in c.args.rows.now) c.args.words.now (withPart c.part_start-at.result c.store_word16.new.words c.write_stamp-stamp.new.part) = stamp_done c.args.order
-        (rows_in c.args.rows.now) c.args.words.now c.store_word16.ensures c.part_start-at.ensures refl c.write_stamp-stamp.ensures c.in_default.is refl in
+    (rows_in c.args.rows.now) c.args.words.now c.store_word16.ensures c.part_start-at.ensures refl c.write_stamp-stamp.ensures c.in_default.is refl in
     let begun : Begun c.args.order (rows_in c.args.rows.now) c.args.words.now ((withPart c.part_start-at-2.result
-        (withPart c.part_start-at.result c.store_word16.new.words c.write_stamp-stamp.new.part) c.write_number-number.new.part)) = number_done c.args.order (rows_in c.args.rows.now) c.args.words.now
-        stamped c.part_start-at-2.ensures refl c.write_number-number.ensures c.in_default-number.is refl in
+    (withPart c.part_start-at.result c.store_word16.new.words c.write_stamp-stamp.new.part) c.write_number-number.new.part)) = number_done c.args.order (rows_in c.args.rows.now) c.args.words.now
+    stamped c.part_start-at-2.ensures refl c.write_number-number.ensures c.in_default-number.is refl in
     let e = c.close-event.ensures in
     event_refused c.args.order (rows_in c.args.rows.now) begun c.write_packets-packets.ensures e.part e.words c.in-Refused-event.is
 
 pub returns-in-Done : goal.returns-in-Done
 returns-in-Done c =
     let stamped : Stamped c.args.order (rows_in c.args.rows.now) c.args.words.now (withPart c.part_start-at.result c.store_word16.new.words c.write_stamp-stamp.new.part) = stamp_done c.args.order
-        (rows_in c.args.rows.now) c.args.words.now c.store_word16.ensures c.part_start-at.ensures refl c.write_stamp-stamp.ensures c.in_default.is refl in
+    (rows_in c.args.rows.now) c.args.words.now c.store_word16.ensures c.part_start-at.ensures refl c.write_stamp-stamp.ensures c.in_default.is refl in
     let begun : Begun c.args.order (rows_in c.args.rows.now) c.args.words.now ((withPart c.part_start-at-2.result
-        (withPart c.part_start-at.result c.store_word16.new.words c.write_stamp-stamp.new.part) c.write_number-number.new.part)) = number_done c.args.order (rows_in c.args.rows.now) c.args.words.now
-        stamped c.part_start-at-2.ensures refl c.write_number-number.ensures c.in_default-number.is refl in
+    (withPart c.part_start-at.result c.store_word16.new.words c.write_stamp-stamp.new.part) c.write_number-number.new.part)) = number_done c.args.order (rows_in c.args.rows.now) c.args.words.now
+    stamped c.part_start-at-2.ensures refl c.write_number-number.ensures c.in_default-number.is refl in
     let e = c.close-event.ensures in
     event_laid c.args.order (rows_in c.args.rows.now) begun c.write_packets-packets.ensures e.part e.words c.in-Done.is

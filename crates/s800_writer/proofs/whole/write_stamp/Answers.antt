@@ -10,9 +10,9 @@ returns-then-number-ne0 c = stamp_own c.args.order (rows_in c.args.rows.now) c.r
 pub returns-then-number-ne0-2 : goal.returns-then-number-ne0-2
 returns-then-number-ne0-2 c =
     stamp_refused c.args.order (rows_in c.args.rows.now) c.row_at.ensures (sym c.if-number-ne0.false ∙ c.own_fault-number.ensures) c.row_at-row.ensures c.limits_fault-number.ensures
-        c.if-number-ne0-2.true c.refuse_part-then-number-ne0-2.ensures
+    c.if-number-ne0-2.true c.refuse_part-then-number-ne0-2.ensures
 
 pub returns : goal.returns
 returns c =
     stamp_written c.args.order (rows_in c.args.rows.now) c.row_at.ensures (sym c.if-number-ne0.false ∙ c.own_fault-number.ensures) c.row_at-row.ensures
-        (sym c.if-number-ne0-2.false ∙ c.limits_fault-number.ensures) c.store_stamp.ensures refl c.close.ensures.part c.close.ensures.words
+    (sym c.if-number-ne0-2.false ∙ c.limits_fault-number.ensures) c.store_stamp.ensures refl c.close.ensures.part c.close.ensures.words

@@ -1,0 +1,13 @@
+-- `text::put_accepted` meets its contract. Assumes nothing.
+use native.Mathlib.Omega.{arith}
+use lib.ListN.{length-append}
+use Rattle.hex_line.proofs.TextLaws.{field_length, placed, placed_put}
+use Rattle.compare_events.specs.Text.{accepted_text}
+use Rattle.compare_events.proofs.text.put_accepted.Goals as goal
+
+pub returns : goal.returns
+unfolding accepted_text
+returns c =
+    let p = placed (c.put_text-middle.ensures.end, c.put_text-middle.ensures.buffer) (omega (arith, c.requires)) in
+    let q = placed_put p _ (c.put_field-end.ensures.end, c.put_field-end.ensures.buffer) (simp (length-append, field_length) (omega (arith, c.requires))) in
+    placed_put q _ (c.put_text.ensures.end, c.put_text.ensures.buffer) (simp (length-append, field_length) (omega (arith, c.requires)))
