@@ -1,4 +1,4 @@
-// The comparison in C's calling convention, with the numbers of the dialect and the stamp order: what second/ compares with the second reader. The answer is three
+// The comparison by the numbers of the dialect and the stamp order: what second/ compares with the second reader. compare_calls_c exports it. The answer is three
 // numbers in a lent buffer, as `numbers_of` has them; they are put where there is room for all three.
 #![tactic(auto)]
 
@@ -13,8 +13,7 @@ use comparison::Comparison;
 use dialects::dialect_of;
 use event::order_of;
 
-#[unsafe(no_mangle)]
-pub extern "C" fn compare_call16(
+pub fn compare_call16(
     dialect: u32,
     order: u32,
     first: &[u16],
@@ -38,8 +37,7 @@ pub extern "C" fn compare_call16(
     put_answer(found, answer);
 }
 
-#[unsafe(no_mangle)]
-pub extern "C" fn compare_call32(
+pub fn compare_call32(
     dialect: u32,
     order: u32,
     first: &[u32],
