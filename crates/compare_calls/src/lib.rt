@@ -1,5 +1,5 @@
-// The comparison with the numbers of the dialect and the stamp order: what second/ compares with the second reader. The answer is three numbers in a lent buffer, as
-// `numbers_of` has them; they are put where there is room for all three. compare_calls_c exports the calls.
+// The comparison by the numbers of the dialect and the stamp order: what second/ compares with the second reader. compare_calls_c exports it. The answer is three
+// numbers in a lent buffer, as `numbers_of` has them; they are put where there is room for all three.
 #![tactic(auto)]
 
 ghost use Rattle.std.specs.Prelude.{◌≡◌, length, [], ◌∷◌, ◌≤◌};

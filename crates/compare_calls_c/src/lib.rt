@@ -1,4 +1,4 @@
-// The calls of compare_calls in C's calling convention, as a static library: what second/pair_calls.c drives.
+// The calls of compare_calls in C's calling convention, as a static library: second/pair_calls.c declares them.
 #![tactic(auto)]
 
 ghost use Rattle.std.specs.Prelude.{◌≡◌, length};
