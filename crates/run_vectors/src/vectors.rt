@@ -114,6 +114,7 @@ fn call_of(number: u32) -> Call
 }
 
 // Whether a call takes these elements: a reading takes words of its dialect's width, and a writing any.
+#[tactic(auto, using(crate::proofs::Tests::tests))]
 fn suits(call: Call, dialect: Dialect, elements: &[u32]) -> bool
     ensures { result ≡ suits call dialect elements.now }
 {
