@@ -13,7 +13,7 @@ use Rattle.frs_reader.proofs.scan.modules.Goals as goal
 pub blocks-2-preserved-in-Empty : goal.blocks-2-preserved-in-Empty
 blocks-2-preserved-in-Empty c =
     let so_far : Modules c.blocks-2.seen c.args.words.now c.args.start c.args.stored c.args.rows.now c.blocks-2.at c.blocks-2.count c.blocks-2.rows = c.blocks-2.invariant in
-    let below : c.blocks-2.at < length c.args.words.now = omega (arith, c.if-words-at.false) in
+    let below : c.blocks-2.at < length c.args.words.now = omega arith in
     let fits : (j : ℕ) → get_or c.args.words.now j 0 < 2 ^ 32 = λ j. omega (arith, c.type_inv.words j) in
     let e = c.in-Empty.is in
     empty_taken (so_far) (below) ((opened so_far below fits c.open_module-opened.ensures.opened e)) c.with_channel-seen.ensures
@@ -22,7 +22,7 @@ blocks-2-preserved-in-Empty c =
 pub loop-at-init : goal.loop-at-init
 loop-at-init c =
     let so_far : Modules c.blocks-2.seen c.args.words.now c.args.start c.args.stored c.args.rows.now c.blocks-2.at c.blocks-2.count c.blocks-2.rows = c.blocks-2.invariant in
-    let below : c.blocks-2.at < length c.args.words.now = omega (arith, c.if-words-at.false) in
+    let below : c.blocks-2.at < length c.args.words.now = omega arith in
     let fits : (j : ℕ) → get_or c.args.words.now j 0 < 2 ^ 32 = λ j. omega (arith, c.type_inv.words j) in
     let block : Opens (c.args.words.now) (c.blocks-2.at) (so_far).state (Block c.in-Block.geo c.in-Block.end) = (opened so_far below fits c.open_module-opened.ensures.opened c.in-Block.is) in
     let o = (block).leads in
@@ -37,7 +37,7 @@ loop-at-preserved c =
 pub blocks-2-preserved : goal.blocks-2-preserved
 blocks-2-preserved c =
     let so_far : Modules c.blocks-2.seen c.args.words.now c.args.start c.args.stored c.args.rows.now c.blocks-2.at c.blocks-2.count c.blocks-2.rows = c.blocks-2.invariant in
-    let below : c.blocks-2.at < length c.args.words.now = omega (arith, c.if-words-at.false) in
+    let below : c.blocks-2.at < length c.args.words.now = omega arith in
     let fits : (j : ℕ) → get_or c.args.words.now j 0 < 2 ^ 32 = λ j. omega (arith, c.type_inv.words j) in
     let block : Opens (c.args.words.now) (c.blocks-2.at) (so_far).state (Block c.in-Block.geo c.in-Block.end) = (opened so_far below fits c.open_module-opened.ensures.opened c.in-Block.is) in
     let at_end : c.loop-at.at ≡ c.in-Block.end = omega (arith, c.loop-at-test.false, c.loop-at.invariant.0.reached.inside) in
@@ -53,14 +53,14 @@ returns-then-words-at c = from_start c.args.words.now c.args.start (finish c.blo
 pub returns-in-Refused : goal.returns-in-Refused
 returns-in-Refused c =
     let so_far : Modules c.blocks-2.seen c.args.words.now c.args.start c.args.stored c.args.rows.now c.blocks-2.at c.blocks-2.count c.blocks-2.rows = c.blocks-2.invariant in
-    let below : c.blocks-2.at < length c.args.words.now = omega (arith, c.if-words-at.false) in
+    let below : c.blocks-2.at < length c.args.words.now = omega arith in
     let fits : (j : ℕ) → get_or c.args.words.now j 0 < 2 ^ 32 = λ j. omega (arith, c.type_inv.words j) in
     from_start (c.args.words.now) (c.args.start) (opening_refused (so_far) (below) _ ((opened so_far below fits c.open_module-opened.ensures.opened c.in-Refused.is)))
 
 pub returns-then-number-ne0 : goal.returns-then-number-ne0
 returns-then-number-ne0 c =
     let so_far : Modules c.blocks-2.seen c.args.words.now c.args.start c.args.stored c.args.rows.now c.blocks-2.at c.blocks-2.count c.blocks-2.rows = c.blocks-2.invariant in
-    let below : c.blocks-2.at < length c.args.words.now = omega (arith, c.if-words-at.false) in
+    let below : c.blocks-2.at < length c.args.words.now = omega arith in
     let fits : (j : ℕ) → get_or c.args.words.now j 0 < 2 ^ 32 = λ j. omega (arith, c.type_inv.words j) in
     let block : Opens (c.args.words.now) (c.blocks-2.at) (so_far).state (Block c.in-Block.geo c.in-Block.end) = (opened so_far below fits c.open_module-opened.ensures.opened c.in-Block.is) in
     let v = c.loop-at.invariant in
@@ -70,7 +70,7 @@ returns-then-number-ne0 c =
 pub returns-then-number-ne0-2 : goal.returns-then-number-ne0-2
 returns-then-number-ne0-2 c =
     let so_far : Modules c.blocks-2.seen c.args.words.now c.args.start c.args.stored c.args.rows.now c.blocks-2.at c.blocks-2.count c.blocks-2.rows = c.blocks-2.invariant in
-    let below : c.blocks-2.at < length c.args.words.now = omega (arith, c.if-words-at.false) in
+    let below : c.blocks-2.at < length c.args.words.now = omega arith in
     let fits : (j : ℕ) → get_or c.args.words.now j 0 < 2 ^ 32 = λ j. omega (arith, c.type_inv.words j) in
     let block : Opens (c.args.words.now) (c.blocks-2.at) (so_far).state (Block c.in-Block.geo c.in-Block.end) = (opened so_far below fits c.open_module-opened.ensures.opened c.in-Block.is) in
     let at_end : c.loop-at.at ≡ c.in-Block.end = omega (arith, c.loop-at-test.false, c.loop-at.invariant.0.reached.inside) in
