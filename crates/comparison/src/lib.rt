@@ -2,7 +2,7 @@
 #![tactic(auto)]
 
 // How many entries the word list and the row list got, or a refusal number and its place.
-#[derive(Drop)]
+#[derive(Clone, Copy)]
 pub enum Comparison {
     Listed { words: usize, rows: usize },
     Refused { number: u32, place: usize },
