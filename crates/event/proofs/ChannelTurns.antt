@@ -9,15 +9,17 @@ use lib.Dec.{eqb}
 use lib.ListN.{length, get_or}
 use lib.Seq.{slice}
 use borrow.Author.Tests.{ne_eqb}
-use Rattle.event.specs.declared.Answer.TheVariants.{Refused}
 use Rattle.event.specs.declared.Row.{Row}
 use Rattle.event.specs.Channels.{insert, Blocked}
 use Rattle.event.specs.Parser.{Result, ok, refuse, Parser, ended, many, each}
+use Rattle.event.specs.declared.refusal.Refusal.{Refusal}
 use Rattle.event.specs.Rows.{store_row}
+use Rattle.event.proofs.Answers.{Failed}
 use Rattle.event.specs.Scanning.{Scanned}
 use Rattle.event.proofs.ChannelLaws.{blocked_more}
 use Rattle.event.proofs.Codes.{Codes, any}
 use Rattle.event.proofs.Turns.{Reached, stop, step, at_word}
+use Rattle.std.specs.Prelude.{Err}
 
 -- what one word gives: its item, or the refusal n that it meets, where n is not 0
 abbrev pub on_fault : {A : Type 0} → ℕ → A → ℕ → List ℕ → Result ℕ A
@@ -39,8 +41,8 @@ module _ {A : Type 0} (item : List ℕ → Parser ℕ A) (channel : A → ℕ) (
     here : item h.state i (slice i end ws) ≡ on_fault fault a i (slice (suc i) end ws)
     here = rw (at_word ws i end below long, ← e) (judged (slice (suc i) end ws))
 
-    pub channel_refused : {n : ℕ} (after : List ℕ) → n ≡ fault → (n ≡ 0 → ⊥) → Scanned (each one_row) (many item with_channel ended [] i₀ (slice i₀ end ws)) k₀ b₀ (Refused n i) after
-    channel_refused {n} after f z = stop c (λ seen a g r. refl) h below long after (here ∙ rw (← f, ne_eqb n 0 z))
+    pub channel_refused : {r : Refusal} (after : List ℕ) → Failed fault i r → Scanned (each one_row) (many item with_channel ended [] i₀ (slice i₀ end ws)) k₀ b₀ (Err r) after
+    channel_refused after t = stop c (λ seen a g r. refl) h below long after (record { number = fault; place = i; refused = here ∙ rw (ne_eqb fault 0 t.some); named = t.named })
 
     pub channel_taken : {set' : ℕ} {b' : List ℕ} → 0 ≡ fault → set' ≡ insert set (channel a) → b' ≡ store_row b k (row_of a) → length b' ≡ length b
         → ChannelTurns barred set' ws end i₀ k₀ b₀ (i + 1) (k + 1) b'

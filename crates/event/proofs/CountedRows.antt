@@ -6,8 +6,6 @@ use mathlib.Core.Path.{◌≡◌, refl}
 use mathlib.Core.Bool.{Bool, false}
 use mathlib.Core.List.{List, [], ◌∷◌}
 use lib.ListN.{length, get_or, drop}
-use Rattle.event.specs.declared.Part.{Part}
-use Rattle.event.specs.declared.Part.TheVariants.{Done, Refused}
 use Rattle.event.specs.declared.Row.{Row}
 use Rattle.event.specs.Parser.{ok, Test, fault_in, Parser, ◌>>=◌, give, times, each}
 use Rattle.event.specs.Scanning.{store_words, Writes}
@@ -16,6 +14,10 @@ use Rattle.event.proofs.RowFaults.{Numbered}
 use Rattle.event.proofs.RowJudged.{row_taken, row_refused}
 use Rattle.event.proofs.Turns.{begin}
 use Rattle.event.proofs.WritingTurns.{counted, WritesOn, rows_done, rows_refused, rows_taken}
+use Rattle.event.specs.declared.refusal.Refusal.{Refusal}
+use Rattle.event.specs.Refusal.{PartAnswer, part}
+use Rattle.event.proofs.Answers.{Failed}
+use Rattle.std.specs.Prelude.{Err, Ok}
 
 -- one more is announced, and none
 module _ {E St A : Type 0} (item : St → Parser E A) (next : St → A → St) (s : ℕ × St) (i : ℕ) (l : List E) where
@@ -49,23 +51,27 @@ module _ {St A : Type 0} (width : ℕ) (stands : St → Row → Bool) (fields : 
   abbrev item : St → Parser Row A
   item st = row_with (stands st) fields (print st) (checks st)
 
-  abbrev Written : Part → List ℕ → Type 0
+  abbrev Written : PartAnswer → List ℕ → Type 0
   Written = Writes width (each f) (times item next n st₀ first (drop first rs)) rs at₀ b₀
 
   abbrev state : St
   state = h.reached.state.1
 
-  pub counted_done : n ≤ k → Written (Done (first + k) at) b
+  pub counted_done : n ≤ k → Written (Ok (part (first + k) at)) b
   counted_done l = rows_done width h.reached (no_more item next h.reached.state (first + k) (drop (first + k) rs) (let s = h.reached.holds.0 in omega arith))
 
   module _ (below : k < n) {r : Row} (e : r ≡ get_or rs (first + k) no_row) where
     one : h.reached.state.0 ≡ suc (n - suc k)
     one = let s = h.reached.holds.0 in omega arith
 
-    pub counted_refused : {m : ℕ} {part : Part} (after : List ℕ) → m ≡ fault_in (row_tests (stands state) fields (print state) (checks state) r) → (m ≡ 0 → ⊥)
-        → part ≡ Refused m (first + k) → Written part after
-    counted_refused after q z p = rw p (rows_refused width h.reached (one_more item next h.reached.state (first + k) (drop (first + k) rs) (n - suc k) one) after
-        (row_refused (stands state) fields (print state) (checks state) (none state) (numbered state) rs (first + k) e q z))
+    pub counted_refused : {m : ℕ} {refused : Refusal} (after : List ℕ) → m ≡ fault_in (row_tests (stands state) fields (print state) (checks state) r) → Failed m (first + k) refused
+        → Written (Err refused) after
+    counted_refused {m} after q t = rows_refused width h.reached (one_more item next h.reached.state (first + k) (drop (first + k) rs) (n - suc k) one) after (record {
+      number = m;
+      place = first + k;
+      refused = row_refused (stands state) fields (print state) (checks state) (none state) (numbered state) rs (first + k) e q t.some;
+      named = t.named;
+    })
 
     module _ (q : 0 ≡ fault_in (row_tests (stands state) fields (print state) (checks state) r)) where
       taken : (first + k < length rs) × (item state (first + k) (drop (first + k) rs) ≡ ok (fields r) (first + k + 1) (drop (first + k + 1) rs))

@@ -5,12 +5,13 @@ use native.Mathlib.Omega.{arith}
 use mathlib.Core.Path.{◌≡◌, refl, ap, sym, ◌∙◌}
 use mathlib.Core.List.{List, [], ◌∷◌, ◌++◌}
 use lib.ListN.{length, length-append}
-use Rattle.event.specs.declared.Answer.TheVariants.{Accepted, Refused}
-use Rattle.event.specs.declared.Part.{Part}
-use Rattle.event.specs.declared.Part.TheVariants as part
 use Rattle.event.specs.Parser.{Result, ok, refuse, Parser, then, give}
-use Rattle.event.specs.Scanning.{Scan, stores, answering, ScannedBy, LeadsBy, BegunBy, BeginsBy}
+use Rattle.event.specs.Scanning.{Scan, stores, answering, ScannedBy, LeadsBy, RefusedAs, BegunBy, BeginsBy}
 use Rattle.event.proofs.Impossible.{impossible}
+use Rattle.event.specs.declared.Part.{Part}
+use Rattle.event.specs.declared.refusal.Refusal.{Refusal}
+use Rattle.event.specs.Refusal.{PartAnswer, refusal}
+use Rattle.std.specs.Prelude.{Err, Ok}
 
 pub leads_refl : {X R E A : Type 0} {scan : Scan X R} {f : A → List X} {x : Result E A} {k : ℕ} {b : List ℕ} → LeadsBy scan f x k b f x k b
 leads_refl = record { leads = λ r l s. s }
@@ -58,11 +59,18 @@ scanned_none {X} {R} {E} {A} {scan} f {x} {a} {j} {r} k b e n = rw e (record {
   stored = ap (stores scan.store b k) (sym n);
 })
 
+-- what a parser refuses
+pub refused_as : {E A : Type 0} {x : Result E A} {n p : ℕ} → x ≡ refuse n p → RefusedAs x (refusal n p)
+refused_as {n = n} {p = p} e = record { number = n; place = p; refused = e; named = refl }
+
 -- a scan that refused says what was refused
-pub refused_scan : {X E A : Type 0} {store : List ℕ → ℕ → X → List ℕ} {most : ℕ → ℕ} (f : A → List X) (x : Result E A) {k n p : ℕ} {b after : List ℕ}
-    → ScannedBy (answering store most) f x k b (Refused n p) after → x ≡ refuse n p
-refused_scan f (ok a j r) s = let e = s.answered in impossible cc
-refused_scan f (refuse m q) s = let e = s.answered in cc
+pub refused_scan : {X E A : Type 0} {store : List ℕ → ℕ → X → List ℕ} {most : ℕ → ℕ} (f : A → List X) (x : Result E A) {k : ℕ} {r : Refusal} {b after : List ℕ}
+    → ScannedBy (answering store most) f x k b (Err r) after → RefusedAs x r
+refused_scan f (ok a j l) s = let e = s.answered in impossible cc
+refused_scan f (refuse m q) {r = r} s =
+    let e = s.answered in
+    let n : r ≡ refusal m q = cc in
+    record { number = m; place = q; refused = refl; named = n }
 
 -- and one from the start that did not, what was taken
 pub record Taken {X E A : Type 0} (f : A → List X) (x : Result E A) (count : ℕ) : Type 0 where
@@ -73,7 +81,7 @@ pub record Taken {X E A : Type 0} (f : A → List X) (x : Result E A) (count : �
   pub counted : count ≡ length (f value)
 
 pub accepted_scan : {X E A : Type 0} {store : List ℕ → ℕ → X → List ℕ} {most : ℕ → ℕ} (f : A → List X) (x : Result E A) {e : ℕ} {b after : List ℕ}
-    → ScannedBy (answering store most) f x 0 b (Accepted e) after → Taken f x e
+    → ScannedBy (answering store most) f x 0 b (Ok e) after → Taken f x e
 accepted_scan f (ok a j r) {e = n} s = let e = s.answered in let c : n ≡ 0 + length (f a) = cc in record { value = a; place = j; input = r; parsed = refl; counted = omega arith }
 accepted_scan f (refuse m q) s = let e = s.answered in impossible cc
 
@@ -90,9 +98,9 @@ leads_done {X} {R} {E} {A} {B} {scan} f {x} {a} {j} {r} {f₀} {x₀} {k} {k₀}
 
 -- an event whose beginning is refused, or done
 module _ {X R E A A₀ : Type 0} {scan : Scan X R} {f : A → List X} {rest : Parser E A} {f₀ : A₀ → List X} {x₀ : Result E A₀} {input : List E}
-    {k₀ : ℕ} {before b : List ℕ} {r : Part} (s : BeginsBy scan f rest f₀ x₀ input k₀ before b r) where
-  pub begins_refused : {n p : ℕ} → r ≡ part.Refused n p → x₀ ≡ refuse n p
+    {k₀ : ℕ} {before b : List ℕ} {r : PartAnswer} (s : BeginsBy scan f rest f₀ x₀ input k₀ before b r) where
+  pub begins_refused : {refused : Refusal} → r ≡ Err refused → RefusedAs x₀ refused
   begins_refused q = (rw q at s).begun
 
-  pub begins_done : {at k : ℕ} → r ≡ part.Done at k → BegunBy scan f rest f₀ x₀ input k₀ before b at k
+  pub begins_done : {p : Part} → r ≡ Ok p → BegunBy scan f rest f₀ x₀ input k₀ before b p.next p.count
   begins_done q = (rw q at s).begun

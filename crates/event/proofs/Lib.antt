@@ -1,5 +1,6 @@
 pub mod Impossible
 pub mod Answers
+pub mod Faults
 pub mod Codes
 pub mod Sequences
 pub mod Many

@@ -7,8 +7,6 @@ use mathlib.Core.Bool.{true, false}
 use mathlib.Core.List.{List, [], ◌∷◌, ◌++◌}
 use lib.ListN.{length, take, drop}
 use borrow.Rule.Slice.PartMut.{put_mid}
-use Rattle.event.specs.declared.Part.{Part}
-use Rattle.event.specs.declared.Part.TheVariants.{Done, Refused}
 use Rattle.event.specs.declared.Row.{Row}
 use Rattle.event.specs.Parser.{ok, Parser, ended, ◌>>=◌, give, many, each}
 use Rattle.event.specs.Scanning.{store_words, Writes}
@@ -20,9 +18,12 @@ use Rattle.event.proofs.RowJudged.{rows_from_lem, rows_over}
 use Rattle.event.proofs.Turns.{up_to_stop}
 use Rattle.event.proofs.WordStores.{length_words, part_written}
 use Rattle.event.proofs.WritingTurns.{WritesOn, rows_done, rows_refused, rows_taken, Wrote, wrote, unwritten}
+use Rattle.event.specs.declared.refusal.Refusal.{Refusal}
+use Rattle.event.specs.Refusal.{PartAnswer}
+use Rattle.std.specs.Prelude.{Err, Ok}
 
 pub parts_done : (width : ℕ) {St A : Type 0} {item : St → Parser Row A} {next : St → A → St} {f : A → List ℕ} {Holds : St → Type 0} {rs : List Row} {st₀ : St} {i₀ k₀ i k : ℕ} {b₀ b : List ℕ}
-    → WritesOn width (up_to_stop ended item next) f Holds rs st₀ i₀ k₀ b₀ i k b → length rs ≤ i → Writes width (each f) (many item next ended st₀ i₀ (drop i₀ rs)) rs k₀ b₀ (Done i k) b
+    → WritesOn width (up_to_stop ended item next) f Holds rs st₀ i₀ k₀ b₀ i k b → length rs ≤ i → Writes width (each f) (many item next ended st₀ i₀ (drop i₀ rs)) rs k₀ b₀ (Ok (record { next = i; count = k })) b
 parts_done width {item = item} {next = next} {rs = rs} {i = i} h l = rows_done width h (many_stop item next ended h.state i (drop i rs) (rw (rows_over rs i l).0))
 
 -- an item has a row
@@ -38,11 +39,11 @@ module _ (width : ℕ) {St A : Type 0} {item : St → Parser Row A} {next : St �
   more = many_step next codes (λ st a g l. again a l) ended (λ l t. rw (nil l t) last) (λ st a g l. on a l) refl h.state i (drop i rs) (rw (rows_from_lem rs i below))
 
   -- the item's part, from the smaller of the place and the length on
-  module _ {start : ℕ} (s : start ≡ min k (length b)) {part part' : List ℕ} (lent : part ≡ take (length b - start) (drop start b)) {p : Part} (w : Writes width f (item h.state i (drop i rs)) rs 0 part p part') where
-    pub part_refused : {n m : ℕ} (after : List ℕ) → p ≡ Refused n m → Writes width (each f) (many item next ended st₀ i₀ (drop i₀ rs)) rs k₀ b₀ (Refused n m) after
+  module _ {start : ℕ} (s : start ≡ min k (length b)) {part part' : List ℕ} (lent : part ≡ take (length b - start) (drop start b)) {p : PartAnswer} (w : Writes width f (item h.state i (drop i rs)) rs 0 part p part') where
+    pub part_refused : {refused : Refusal} (after : List ℕ) → p ≡ Err refused → Writes width (each f) (many item next ended st₀ i₀ (drop i₀ rs)) rs k₀ b₀ (Err refused) after
     part_refused after e = rows_refused width h more after (unwritten width f (item h.state i (drop i rs)) (rw e at w.scanned))
 
-    module _ {j n : ℕ} (e : p ≡ Done j n) where
+    module _ {j n : ℕ} (e : p ≡ Ok (record { next = j; count = n })) where
       whole : Wrote width f (item h.state i (drop i rs)) 0 part j n part'
       whole = wrote width f (item h.state i (drop i rs)) (rw e at w.scanned)
 

@@ -9,15 +9,16 @@ use mathlib.Core.List.{List, [], ◌∷◌, ◌++◌}
 use lib.ListN.{length, get_or}
 use lib.Seq.{slice, slice-cons, slice_empty}
 use borrow.Author.Tests.{eq-eqb, lt-ltb}
-use Rattle.event.specs.declared.Answer.TheVariants.{Accepted, Refused}
 use Rattle.event.specs.declared.Row.{Row}
 use Rattle.event.specs.Parser.{Result, ok, refuse, Parser, ended, then, ◌>>=◌, give, here, checked, lastly, many, each}
 use Rattle.event.specs.Words.{word_below}
-use Rattle.event.specs.Scanning.{Scan, stores, store_rows, ScannedBy, LeadsBy, reading, Scanned}
+use Rattle.event.specs.Scanning.{Scan, stores, store_rows, ScannedBy, RefusedAs, LeadsBy, reading, Scanned}
 use Rattle.event.proofs.Codes.{Codes, any}
 use Rattle.event.proofs.Impossible.{impossible}
 use Rattle.event.proofs.Leads.{leads_part, leads_refl, leads_trans, scanned_refuse, scanned_none}
 use Rattle.event.proofs.Many.{many_step, many_stop}
+use Rattle.event.specs.declared.refusal.Refusal.{Refusal}
+use Rattle.std.specs.Prelude.{Err, Ok}
 
 -- Items one after another: one after a state, the state after it, and the parser of all that are left after a state.
 pub record Items (E St A : Type 0) : Type 0 where
@@ -98,7 +99,7 @@ goes_on ws i end h l = rw (at_word ws i end h l)
 
 pub finish : {St A : Type 0} {item : St → Parser ℕ A} {next : St → A → St} {f : A → List Row} {Holds : St → Type 0} {ws : List ℕ} {end : ℕ}
     {st₀ : St} {i₀ k₀ i k : ℕ} {b₀ b : List ℕ} → Reached item next f Holds ws end st₀ i₀ k₀ b₀ i k b → end ≤ i
-    → Scanned (each f) (many item next ended st₀ i₀ (slice i₀ end ws)) k₀ b₀ (Accepted k) b
+    → Scanned (each f) (many item next ended st₀ i₀ (slice i₀ end ws)) k₀ b₀ (Ok k) b
 finish {item = item} {next = next} {ws = ws} {end = end} {i = i} h l =
     let e : end ≡ i = let m = h.inside in omega arith in
     stopped h (many_stop item next ended h.state i (slice i end ws) (rw (e, slice_empty i ws)))
@@ -110,9 +111,9 @@ module _ {St A : Type 0} {item : St → Parser ℕ A} {print : St → A → List
   more : many item next ended h.state i (slice i end ws) ≡ (item h.state >>= λ a. many item next ended (next h.state a) >>= λ xs. give (a ∷ xs)) i (slice i end ws)
   more = many_step next c (λ st a g r. tt) ended (λ r t. tt) on refl h.state i (slice i end ws) (goes_on ws i end below long)
 
-  pub stop : {n p : ℕ} (after : List ℕ) → item h.state i (slice i end ws) ≡ refuse n p
-      → Scanned (each f) (many item next ended st₀ i₀ (slice i₀ end ws)) k₀ b₀ (Refused n p) after
-  stop = item_refused h more
+  pub stop : {r : Refusal} (after : List ℕ) → RefusedAs (item h.state i (slice i end ws)) r
+      → Scanned (each f) (many item next ended st₀ i₀ (slice i₀ end ws)) k₀ b₀ (Err r) after
+  stop after e = rw e.named (item_refused h more {n = e.number} {p = e.place} after e.refused)
 
   pub step : {Holds' : St → Type 0} {a : A} {j k' : ℕ} {b' : List ℕ} → item h.state i (slice i end ws) ≡ ok a j (slice j end ws)
       → Holds' (next h.state a) → j ≤ end → k' ≤ j → k' ≡ k + length (f a) → b' ≡ store_rows b k (f a) → length b' ≡ length b

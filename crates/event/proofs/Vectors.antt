@@ -4,10 +4,10 @@ use Prim.Native.Nat.{ℕ, zero, suc, ◌+◌}
 use mathlib.Core.Path.{◌≡◌}
 use mathlib.Core.List.{List, [], ◌∷◌, map}
 use lib.ListN.{length, replicate}
-use Rattle.event.specs.declared.Answer.{Answer}
 use Rattle.event.specs.declared.Row.{Row}
 use Rattle.event.specs.Outcome.{Outcome, answer_of, given, overlaid, in_room, in_word_room}
 use Rattle.event.specs.Rows.{row, flat, room}
+use Rattle.event.specs.Refusal.{Answer}
 
 -- n words from w on, each larger by d than the one before
 abbrev pub rising : (w d n : ℕ) → List ℕ

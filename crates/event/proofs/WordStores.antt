@@ -10,7 +10,7 @@ use lib.Dec.{ltb→lt}
 use lib.ListN.{length, get_or, take, drop, set, length-set, length-drop, drop_of_length-le}
 use lib.Seq.{set_comm, set_out, set_at, sets, sets-eq, take_all, drop-cons}
 use borrow.Rule.Slice.PartMut.{put_mid}
-use Rattle.event.specs.Words.{store_word}
+use Rattle.event.specs.Words.{store_of, store_word}
 use Rattle.event.specs.Outcome.{overlaid}
 use Rattle.event.specs.Demands.{InWidth}
 use Rattle.event.specs.Scanning.{store_words}
@@ -29,7 +29,7 @@ sets_append buffer (x ∷ a) b at =
 
 module _ (width : ℕ) where
   length_stored : (b : List ℕ) (i w : ℕ) → length (store_word width b i w) ≡ length b
-  unfolding store_word
+  unfolding store_of
   length_stored b i w = length-set b i (w % 2 ^ width)
 
   pub length_words : (ws b : List ℕ) (k : ℕ) → length (store_words width b k ws) ≡ length b
@@ -38,7 +38,7 @@ module _ (width : ℕ) where
 
   -- a word before those stored
   pub stored_before : (ws b : List ℕ) (j k w : ℕ) → j < k → store_word width (store_words width b k ws) j w ≡ store_words width (store_word width b j w) k ws
-  unfolding store_word
+  unfolding store_of
   stored_before [] b j k w h = refl
   stored_before (v ∷ ws) b j k w h =
       stored_before ws (store_word width b k v) j (k + 1) w (omega arith)
@@ -46,7 +46,7 @@ module _ (width : ℕ) where
 
   -- words that fit the width, as one run
   as_run : (ws b : List ℕ) (k : ℕ) → InWidth width ws → store_words width b k ws ≡ sets b k ws
-  unfolding store_word
+  unfolding store_of
   as_run [] b k h = refl
   as_run (w ∷ ws) b k h =
       let e : w % 2 ^ width ≡ w = mod-eq_of_lt (ltb→lt w (2 ^ width) h.0) in
@@ -56,19 +56,19 @@ module _ (width : ℕ) where
   words_laid ws b h l = as_run ws b 0 h ∙ sets-eq ws b 0 (omega arith) ∙ rw zero-add
 
   none_stored : (ws : List ℕ) (k : ℕ) → store_words width [] k ws ≡ []
-  unfolding store_word
+  unfolding store_of
   none_stored [] k = refl
   none_stored (w ∷ ws) k = none_stored ws (k + 1)
 
   -- words past the end
   pub past_the_end : (ws b : List ℕ) (k : ℕ) → length b ≤ k → store_words width b k ws ≡ b
-  unfolding store_word
+  unfolding store_of
   past_the_end [] b k h = refl
   past_the_end (w ∷ ws) b k h = ap (λ (l : List ℕ). store_words width l (k + 1) ws) (set_out b k (w % 2 ^ width) h) ∙ past_the_end ws b (k + 1) (omega arith)
 
   -- a word past the first, in the rest
   first_kept : (x : ℕ) (ws b : List ℕ) (k : ℕ) → store_words width (x ∷ b) (suc k) ws ≡ x ∷ store_words width b k ws
-  unfolding store_word
+  unfolding store_of
   first_kept x [] b k = refl
   first_kept x (w ∷ ws) b k =
       let e : suc k + 1 ≡ suc (k + 1) = omega arith in

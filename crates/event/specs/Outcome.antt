@@ -1,12 +1,11 @@
 -- The outcome of a reading (rows), a writing or a line (words), or of a list of differences, and how a lent buffer and the answer follow from it.
 -- Assumes nothing.
-use Rattle.std.specs.Prelude.{ℕ, Bool, true, false, cond, List, [], ◌++◌, leb, eqb, length, drop}
-use Rattle.event.specs.declared.Answer.{Answer}
-use Rattle.event.specs.declared.Answer.TheVariants as answer
+use Rattle.std.specs.Prelude.{ℕ, Bool, true, false, cond, List, [], ◌++◌, leb, eqb, length, drop, Ok, Err}
 use Rattle.event.specs.declared.Row.{Row}
 use Rattle.event.specs.declared.StampOrder.{StampOrder}
 use Rattle.event.specs.declared.StampOrder.TheVariants as stamp
 use Rattle.event.specs.Parser.{Result, ok, refuse}
+use Rattle.event.specs.Refusal.{Answer, number, refusal}
 
 -- the stamp order where none is given (document 02, #105)
 abbrev pub default_order : StampOrder
@@ -44,22 +43,22 @@ given (done xs) = xs
 given (refused n k) = []
 
 abbrev pub answer_of : {A : Type 0} → Outcome A → Answer
-answer_of (done xs) = answer.Accepted (length xs)
-answer_of (refused n k) = answer.Refused n k
+answer_of (done xs) = Ok (length xs)
+answer_of (refused n k) = Err (refusal n k)
 
 -- An answer in document 01's numbers, for each of its cases: whether it accepts; the refusal number, 0 where there is none; the rows or words given, or the place of
 -- the refusal.
 abbrev pub accepted : Answer → Bool
-accepted (answer.Accepted n) = true
-accepted (answer.Refused n k) = false
+accepted (Ok n) = true
+accepted (Err r) = false
 
 abbrev pub refusal_number : Answer → ℕ
-refusal_number (answer.Accepted n) = 0
-refusal_number (answer.Refused n k) = n
+refusal_number (Ok n) = 0
+refusal_number (Err r) = number r.fault
 
 abbrev pub count_or_place : Answer → ℕ
-count_or_place (answer.Accepted n) = n
-count_or_place (answer.Refused n k) = k
+count_or_place (Ok n) = n
+count_or_place (Err r) = r.place
 
 -- the lent buffer afterwards: only the elements given are written, none on refusal
 abbrev pub overlaid : List ℕ → List ℕ → List ℕ

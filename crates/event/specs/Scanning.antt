@@ -1,13 +1,11 @@
 -- What a scan that stores its items one by one, rows (a reading) or words (a writing), each where the buffer has room, leaves behind. (The contracts of
 -- private functions speak of it; no public one does.)
 -- Assumes nothing.
-use Rattle.std.specs.Prelude.{ℕ, ◌+◌, ◌*◌, ◌≤◌, ◌≡◌, List, [], ◌∷◌, length, drop}
-use Rattle.event.specs.declared.Answer.{Answer}
-use Rattle.event.specs.declared.Answer.TheVariants as answer
-use Rattle.event.specs.declared.Part.{Part}
-use Rattle.event.specs.declared.Part.TheVariants as part
+use Rattle.std.specs.Prelude.{ℕ, ◌+◌, ◌*◌, ◌≤◌, ◌≡◌, List, [], ◌∷◌, length, drop, Ok, Err}
+use Rattle.event.specs.declared.refusal.Refusal.{Refusal}
 use Rattle.event.specs.declared.Row.{Row}
 use Rattle.event.specs.Parser.{Result, ok, refuse, Parser}
+use Rattle.event.specs.Refusal.{Answer, PartAnswer, part, refusal}
 use Rattle.event.specs.Rows.{store_row}
 use Rattle.event.specs.Words.{store_word}
 
@@ -32,7 +30,7 @@ pub record Scan (X R : Type 0) : Type 0 where
 
 -- of a whole event, or of a part that ends where its caller knows
 abbrev pub answering : {X : Type 0} → (store : List ℕ → ℕ → X → List ℕ) → (most : ℕ → ℕ) → Scan X Answer
-answering store most = record { store = store; most = most; accepted = λ next count. answer.Accepted count; refused = answer.Refused }
+answering store most = record { store = store; most = most; accepted = λ next count. Ok count; refused = λ n p. Err (refusal n p) }
 
 -- reading: no more rows than words
 abbrev pub reading : Scan Row Answer
@@ -42,8 +40,8 @@ reading = answering store_row (λ i. i)
 abbrev pub writing_all : (width : ℕ) → Scan ℕ Answer
 writing_all width = answering (store_word width) (4 *◌)
 
-abbrev pub writing_part : (width : ℕ) → Scan ℕ Part
-writing_part width = record { store = store_word width; most = 4 *◌; accepted = part.Done; refused = part.Refused }
+abbrev pub writing_part : (width : ℕ) → Scan ℕ PartAnswer
+writing_part width = record { store = store_word width; most = 4 *◌; accepted = λ next count. Ok (part next count); refused = λ n p. Err (refusal n p) }
 
 module _ {X R E A : Type 0} (scan : Scan X R) (items_of : A → List X) where
   -- the answer to what a parser gave, after k items
@@ -66,6 +64,13 @@ pub record LeadsBy {X R E A A₀ : Type 0} (scan : Scan X R) (items_of : A → L
     (itemsOf₀ : A₀ → List X) (x₀ : Result E A₀) (k₀ : ℕ) (buffer₀ : List ℕ) : Type 0 where
   pub leads : (result : R) (after : List ℕ) → ScannedBy scan items_of x k buffer result after → ScannedBy scan itemsOf₀ x₀ k₀ buffer₀ result after
 
+-- what a parser refused by a number and a place is refused by them
+pub record RefusedAs {E A : Type 0} (x : Result E A) (r : Refusal) : Type 0 where
+  pub number : ℕ
+  pub place : ℕ
+  pub refused : x ≡ refuse number place
+  pub named : r ≡ refusal number place
+
 -- The beginning of an event: x₀ is what a parser gives for the event, `rest` the parser of what follows the beginning.
 module _ {X R E A A₀ : Type 0} (scan : Scan X R) (items_of : A → List X) (rest : Parser E A) (itemsOf₀ : A₀ → List X) (x₀ : Result E A₀) (input : List E)
     (k₀ : ℕ) (before after : List ℕ) where
@@ -76,11 +81,11 @@ module _ {X R E A A₀ : Type 0} (scan : Scan X R) (items_of : A → List X) (re
     pub leads : LeadsBy scan items_of (rest at (drop at input)) k after itemsOf₀ x₀ k₀ before
 
   -- it ends so, or is refused, and the event with it
-  abbrev Begun : Part → Type 0
-  Begun (part.Done at k) = BegunBy at k
-  Begun (part.Refused n p) = x₀ ≡ refuse n p
+  abbrev Begun : PartAnswer → Type 0
+  Begun (Ok p) = BegunBy p.next p.count
+  Begun (Err r) = RefusedAs x₀ r
 
-  pub record BeginsBy (r : Part) : Type 0 where
+  pub record BeginsBy (r : PartAnswer) : Type 0 where
     pub begun : Begun r
 
 -- A part of an event that is read, for which a parser gave x.
@@ -94,11 +99,11 @@ module _ {A : Type 0} (rows_of : A → List Row) (x : Result ℕ A) (ws : List �
     pub counted : k ≡ k₀ + length (rows_of value)
     pub stored : after ≡ store_rows before k₀ (rows_of value)
 
-  abbrev Parsed : Part → Type 0
-  Parsed (part.Done at k) = Whole at k
-  Parsed (part.Refused n p) = x ≡ refuse n p
+  abbrev Parsed : PartAnswer → Type 0
+  Parsed (Ok p) = Whole p.next p.count
+  Parsed (Err r) = RefusedAs x r
 
-  pub record PartOf (r : Part) : Type 0 where
+  pub record PartOf (r : PartAnswer) : Type 0 where
     pub part : Parsed r
 
 -- of rows that are read
@@ -109,11 +114,11 @@ abbrev pub Leads : {E A A₀ : Type 0} → (A → List Row) → Result E A → �
 Leads = LeadsBy reading
 
 -- of words that are written: a part that ends within the rows, with at most four words for a row
-abbrev WithinRows : List Row → Part → Type 0
-WithinRows rs (part.Done next count) = (next ≤ length rs) × (count ≤ 4 * next)
-WithinRows rs (part.Refused n p) = Unit {0}
+abbrev WithinRows : List Row → PartAnswer → Type 0
+WithinRows rs (Ok p) = (p.next ≤ length rs) × (p.count ≤ 4 * p.next)
+WithinRows rs (Err r) = Unit {0}
 
 -- a part that x parsed from rows, written after k words in the buffer `before`
-pub record Writes {A : Type 0} (width : ℕ) (words_of : A → List ℕ) (x : Result Row A) (rs : List Row) (k : ℕ) (before : List ℕ) (result : Part) (after : List ℕ) : Type 0 where
+pub record Writes {A : Type 0} (width : ℕ) (words_of : A → List ℕ) (x : Result Row A) (rs : List Row) (k : ℕ) (before : List ℕ) (result : PartAnswer) (after : List ℕ) : Type 0 where
   pub scanned : ScannedBy (writing_part width) words_of x k before result after
   pub within : WithinRows rs result

@@ -1,49 +1,30 @@
-// The kinds of row of documents 01, 'Rows', and 02: those of dialect S from 1 on, those of dialect F from 16 on, those of dialect R from 32 on.
+// The kinds of row: those of dialect S from 1 on, those of dialect F from 16 on, those of dialect R from 32 on. (A row of a lent buffer may have any number as its
+// kind, so that a field of a row is no `Kind`.)
 
-pub const PACKET: u32 = 1;
-
-pub const STAMP: u32 = 2;
-
-pub const EVENT_NUMBER: u32 = 3;
-
-pub const TRIGGER_PATTERN: u32 = 4;
-
-pub const TIME: u32 = 5;
-
-pub const ENERGY: u32 = 6;
-
-pub const THRESHOLD: u32 = 7;
-
-pub const SAMPLE_HEAD: u32 = 8;
-
-pub const ANODE: u32 = 9;
-
-pub const HODOSCOPE_HITS: u32 = 10;
-
-pub const OPAQUE_WORD: u32 = 11;
-
-pub const SAMPLE_DATUM: u32 = 12;
-
-pub const F_STAMP: u32 = 16;
-
-pub const SCALER_BLOCK: u32 = 17;
-
-pub const SCALER: u32 = 18;
-
-pub const PATTERN_UNIT: u32 = 19;
-
-pub const EMPTY_MODULE: u32 = 20;
-
-pub const MODULE: u32 = 21;
-
-pub const VALUE: u32 = 22;
-
-pub const REGION: u32 = 32;
-
-pub const REGION_WORD: u32 = 33;
-
-pub const REGION_SCALER: u32 = 34;
-
-pub const VDC_MODULE: u32 = 35;
-
-pub const VDC_DATUM: u32 = 36;
+#[derive(Clone, Copy, Debug, PartialEq, Eq)]
+pub enum Kind {
+    Packet = 1,
+    Stamp = 2,
+    EventNumber = 3,
+    TriggerPattern = 4,
+    Time = 5,
+    Energy = 6,
+    Threshold = 7,
+    SampleHead = 8,
+    Anode = 9,
+    HodoscopeHits = 10,
+    OpaqueWord = 11,
+    SampleDatum = 12,
+    FStamp = 16,
+    ScalerBlock = 17,
+    Scaler = 18,
+    PatternUnit = 19,
+    EmptyModule = 20,
+    Module = 21,
+    Value = 22,
+    Region = 32,
+    RegionWord = 33,
+    RegionScaler = 34,
+    VdcModule = 35,
+    VdcDatum = 36,
+}

@@ -8,10 +8,12 @@ pub mod rows;
 pub mod words;
 
 ghost use Rattle.std.specs.Prelude.{◌≡◌};
-ghost use Rattle.event.specs.Outcome.{default_order, order_of, accepted, refusal_number, count_or_place};
+ghost use Rattle.event.specs.Outcome.{default_order, order_of, refusal_number, count_or_place};
+
+use refusal::Refusal;
 
 // A row of an event (document 01, 'Rows').
-#[derive(Clone, Copy)]
+#[derive(Clone, Copy, Debug, PartialEq, Eq)]
 pub struct Row {
     pub kind: u32,
     pub unit: u32,
@@ -20,76 +22,56 @@ pub struct Row {
 }
 
 // The order of the four stamp chunks in dialect S (document 01, 'Two dialects').
-#[derive(Clone, Copy)]
+#[derive(Clone, Copy, Debug, PartialEq, Eq)]
 pub enum StampOrder {
     Crossed,
     Rising,
 }
 
-// The number of rows (or words) given, or a refusal number and its place.
-#[derive(Clone, Copy)]
-pub enum Answer {
-    Accepted(usize),
-    Refused { number: u32, place: usize },
-}
-
-// Whether an answer accepts.
-pub fn accepts(answer: Answer) -> bool
-    ensures { result ≡ accepted answer }
-{
-    match answer {
-        Answer::Accepted(_) => true,
-        Answer::Refused { .. } => false,
-    }
+// A part of an event: the place after it, and the number of rows (or words) given up to there.
+#[derive(Clone, Copy, Debug, PartialEq, Eq)]
+pub struct Part {
+    pub next: usize,
+    pub count: usize,
 }
 
 // The refusal number of an answer, 0 where it accepts.
-pub fn refusal_number(answer: Answer) -> u32
+pub fn refusal_number(answer: Result<usize, Refusal>) -> u32
     ensures { result ≡ refusal_number answer }
 {
     match answer {
-        Answer::Accepted(_) => 0,
-        Answer::Refused { number, .. } => number,
+        Ok(_) => 0,
+        Err(refusal) => refusal.fault as u32,
     }
 }
 
 // The rows or words given, or the place of the refusal.
-pub fn count_or_place(answer: Answer) -> usize
+pub fn count_or_place(answer: Result<usize, Refusal>) -> usize
     ensures { result ≡ count_or_place answer }
 {
     match answer {
-        Answer::Accepted(count) => count,
-        Answer::Refused { place, .. } => place,
+        Ok(count) => count,
+        Err(refusal) => refusal.place,
     }
 }
 
-// A part of an event: the place after it, and the number of rows (or words) given up to there; or a refusal number and its place.
-#[derive(Clone, Copy)]
-pub enum Part {
-    Done { next: usize, count: usize },
-    Refused { number: u32, place: usize },
-}
+// The stamp order where none is given.
+impl Default for StampOrder {
+    ghost is_default = { λ order. order ≡ default_order };
 
-// The stamp order where none is given (document 02, #105).
-pub fn default_order() -> StampOrder
-    ensures { result ≡ default_order }
-{
-    StampOrder::Rising
+    fn default() -> StampOrder {
+        StampOrder::Rising
+    }
 }
 
 // The stamp order of a number: 0 is crossed, any other rising. (The host call refuses those above 1 first, by 31.)
-pub fn order_of(number: u32) -> StampOrder
-    ensures { result ≡ order_of number }
-{
-    if number != 0 {
-        return StampOrder::Rising;
-    }
-    StampOrder::Crossed
-}
+impl From<u32> for StampOrder {
+    ghost from_gives = { λ number order. order ≡ order_of number };
 
-// A part that is refused.
-pub fn refuse_part(number: u32, place: usize) -> Part
-    ensures { result ≡ Part.Refused number place }
-{
-    Part::Refused { number, place }
+    fn from(number: u32) -> StampOrder {
+        if number != 0 {
+            return StampOrder::Rising;
+        }
+        StampOrder::Crossed
+    }
 }

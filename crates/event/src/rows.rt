@@ -43,9 +43,5 @@ pub fn row_at(rows: &[u32], at: usize) -> Row
 pub fn fitting(n: usize, at: usize, room: usize) -> usize
     ensures { result ≡ min n (room - at) }
 {
-    if room <= at {
-        return 0;
-    }
-    let free = room - at;
-    if n < free { n } else { free }
+    n.min(room.saturating_sub(at))
 }

@@ -1,22 +1,55 @@
 // Words in a lent buffer.
-ghost use Rattle.std.specs.Prelude.{◌≡◌, cond, min};
-ghost use Rattle.event.specs.Words.{store_word};
+ghost use Rattle.std.specs.Prelude.{ℕ, ◌%◌, ◌^◌, ◌≡◌, cond, min};
+ghost use Rattle.event.specs.Words.{store_of};
 
-// Stores the low 16 bits of a word at `at`, where the buffer has room for it.
-pub fn store_word16(words: &mut [u16], at: usize, word: usize)
-    ensures { words.new ≡ store_word 16 words.old at word }
-{
-    if at < words.len() {
-        words[at] = (word % 65536) as u16;
+// A word of an event, of 16 or of 32 bits.
+pub trait Word: Copy {
+    // The word of a number, which is its low bits; the number that a word is.
+    ghost of_number: { ℕ → Self };
+
+    ghost number: { Self → ℕ };
+
+    fn of_low_bits(low: usize) -> Self
+        ensures { result ≡ of_number low };
+
+    fn to_number(self) -> u64
+        ensures { result ≡ number self };
+}
+
+impl Word for u16 {
+    ghost of_number = { λ n. n % 2 ^ 16 };
+
+    ghost number = { λ w. w };
+
+    fn of_low_bits(low: usize) -> u16 {
+        (low % 65536) as u16
+    }
+
+    fn to_number(self) -> u64 {
+        u64::from(self)
     }
 }
 
-// Stores a 32-bit word at `at`, where the buffer has room for it.
-pub fn store_word32(words: &mut [u32], at: usize, word: u32)
-    ensures { words.new ≡ store_word 32 words.old at word }
+impl Word for u32 {
+    ghost of_number = { λ n. n % 2 ^ 32 };
+
+    ghost number = { λ w. w };
+
+    fn of_low_bits(low: usize) -> u32 {
+        (low % 0x1_0000_0000) as u32
+    }
+
+    fn to_number(self) -> u64 {
+        u64::from(self)
+    }
+}
+
+// Stores the word of a number at `at`, where the buffer has room for it.
+pub fn store_word<W: Word>(words: &mut [W], at: usize, number: usize)
+    ensures { words.new ≡ store_of W.of_number words.old at number }
 {
     if at < words.len() {
-        words[at] = word;
+        words[at] = W::of_low_bits(number);
     }
 }
 
@@ -31,5 +64,5 @@ pub fn pick(first: bool, a: u32, b: u32) -> u32
 pub fn part_start(at: usize, length: usize) -> usize
     ensures { result ≡ min at length }
 {
-    if at < length { at } else { length }
+    at.min(length)
 }

@@ -4,11 +4,12 @@
 use Prim.Native.Nat.{ℕ}
 use mathlib.Core.Path.{◌≡◌, refl}
 use mathlib.Core.List.{List, [], ◌∷◌, ◌++◌, map}
-use Rattle.event.specs.declared.Answer.TheVariants.{Accepted, Refused}
 use Rattle.event.specs.declared.StampOrder.TheVariants.{Crossed}
 use Rattle.event.proofs.Vectors.{read_into, write_into, nines, RoomCase, case}
 use Rattle.s800_layout.specs.Reading.{reading}
 use Rattle.s800_layout.specs.Writing.{writing}
+use Rattle.std.specs.Prelude.{Err, Ok}
+use Rattle.event.specs.Refusal.{refusal}
 
 -- document 01's M, and M with a trigger packet whose time has channel 7, which is refused at 17
 abbrev m : List ℕ
@@ -33,22 +34,22 @@ group_elements = 1 ∷ 0x5840 ∷ 0 ∷ 0 ∷ 7 ∷ 0 ∷ 0 ∷ 0 ∷ 8 ∷ 37 �
 abbrev readings : List RoomCase
 readings =
     -- 12, place the rows needed, the buffer as it was
-    case m [] (Refused 12 4) []
-    ∷ case m (nines 3) (Refused 12 4) (nines 3)
-    ∷ case m (nines 4) (Refused 12 4) (nines 4)
-    ∷ case m (nines 15) (Refused 12 4) (nines 15)
+    case m [] (Err (refusal 12 4)) []
+    ∷ case m (nines 3) (Err (refusal 12 4)) (nines 3)
+    ∷ case m (nines 4) (Err (refusal 12 4)) (nines 4)
+    ∷ case m (nines 15) (Err (refusal 12 4)) (nines 15)
     -- room: only the elements of the rows given are written
-    ∷ case m (nines 16) (Accepted 4) elements
-    ∷ case m (nines 17) (Accepted 4) (elements ++ nines 1)
-    ∷ case m (nines 19) (Accepted 4) (elements ++ nines 3)
-    ∷ case m (nines 40) (Accepted 4) (elements ++ nines 24)
+    ∷ case m (nines 16) (Ok 4) elements
+    ∷ case m (nines 17) (Ok 4) (elements ++ nines 1)
+    ∷ case m (nines 19) (Ok 4) (elements ++ nines 3)
+    ∷ case m (nines 40) (Ok 4) (elements ++ nines 24)
     -- M with case 7's group: a row for its head and one for its data word
-    ∷ case grouped (nines 35) (Refused 12 9) (nines 35)
-    ∷ case grouped (nines 36) (Accepted 9) (elements ++ group_elements)
+    ∷ case grouped (nines 35) (Err (refusal 12 9)) (nines 35)
+    ∷ case grouped (nines 36) (Ok 9) (elements ++ group_elements)
     -- 12 comes last, and no refusal writes
-    ∷ case bad [] (Refused 10 17) []
-    ∷ case bad (nines 15) (Refused 10 17) (nines 15)
-    ∷ case bad (nines 40) (Refused 10 17) (nines 40)
+    ∷ case bad [] (Err (refusal 10 17)) []
+    ∷ case bad (nines 15) (Err (refusal 10 17)) (nines 15)
+    ∷ case bad (nines 40) (Err (refusal 10 17)) (nines 40)
     ∷ []
 
 -- M's rows with a third chunk of the event number that is wider than a word: 22 at row 3
@@ -58,18 +59,18 @@ bad_elements = 1 ∷ 0x5803 ∷ 0 ∷ 0 ∷ 2 ∷ 0 ∷ 0 ∷ 0x00011234 ∷ 1 �
 abbrev writings : List RoomCase
 writings =
     -- 24, place the words needed, the buffer as it was
-    case elements [] (Refused 24 14) []
-    ∷ case elements (nines 13) (Refused 24 14) (nines 13)
+    case elements [] (Err (refusal 24 14)) []
+    ∷ case elements (nines 13) (Err (refusal 24 14)) (nines 13)
     -- room: only the words given are written
-    ∷ case elements (nines 14) (Accepted 14) m
-    ∷ case elements (nines 15) (Accepted 14) (m ++ nines 1)
-    ∷ case elements (nines 40) (Accepted 14) (m ++ nines 26)
-    ∷ case (elements ++ group_elements) (nines 25) (Refused 24 26) (nines 25)
-    ∷ case (elements ++ group_elements) (nines 27) (Accepted 26) (grouped ++ nines 1)
+    ∷ case elements (nines 14) (Ok 14) m
+    ∷ case elements (nines 15) (Ok 14) (m ++ nines 1)
+    ∷ case elements (nines 40) (Ok 14) (m ++ nines 26)
+    ∷ case (elements ++ group_elements) (nines 25) (Err (refusal 24 26)) (nines 25)
+    ∷ case (elements ++ group_elements) (nines 27) (Ok 26) (grouped ++ nines 1)
     -- 24 comes last (after 23: crate s800_sizes), and no refusal writes
-    ∷ case (9 ∷ elements) [] (Refused 20 0) []
-    ∷ case bad_elements [] (Refused 22 3) []
-    ∷ case bad_elements (nines 40) (Refused 22 3) (nines 40)
+    ∷ case (9 ∷ elements) [] (Err (refusal 20 0)) []
+    ∷ case bad_elements [] (Err (refusal 22 3)) []
+    ∷ case bad_elements (nines 40) (Err (refusal 22 3)) (nines 40)
     ∷ []
 
 pub rooms : map (λ (c : RoomCase). read_into (reading Crossed) c.lent) readings ≡ map (λ (c : RoomCase). c.left) readings
