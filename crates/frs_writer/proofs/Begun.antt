@@ -7,10 +7,6 @@ use mathlib.Core.List.{List, [], ◌∷◌, ◌++◌, append_assoc}
 use mathlib.Core.Option.{Option, some, none}
 use lib.ListN.{length, get_or, take, drop, length-append}
 use borrow.Rule.Slice.PartMut.{put_mid}
-use Rattle.event.specs.declared.Answer.{Answer}
-use Rattle.event.specs.declared.Answer.TheVariants as answer
-use Rattle.event.specs.declared.Part.{Part}
-use Rattle.event.specs.declared.Part.TheVariants.{Done, Refused}
 use Rattle.event.specs.declared.Row.{Row}
 use Rattle.event.specs.Parser.{ok, ended, optionally, many, each, if_any}
 use Rattle.event.specs.Words.{store_word}
@@ -31,6 +27,8 @@ use Rattle.frs_layout.proofs.Rows.{codes_scaler, codes_pattern, codes_one}
 use Rattle.frs_layout.proofs.Width.{words_fit}
 use Rattle.frs_writer.specs.Faults.{stamp_fault}
 use Rattle.frs_writer.specs.Parts.{Begins}
+use Rattle.event.specs.Refusal.{Answer, PartAnswer, part, refusal}
+use Rattle.std.specs.Prelude.{Err, Ok}
 
 -- the longwords before the modules
 abbrev first : Stamp → List ℕ → Option PatternUnit → List ℕ
@@ -49,7 +47,7 @@ leads_event rs {before} {at' = at'} s vs o p q r l t = rw (p, q, r, l, t) (leads
     (λ ms. ap (stamp_words s ++◌) (sym (append_assoc (scaler_words vs) (if_any pattern_words o) (each module_words ms)))))
 
 module _ (rs : List Row) (before : List ℕ) {r : Row} (e : r ≡ get_or rs 0 no_row) where
-  pub stamp_refused : {m : ℕ} {part : Part} {after : List ℕ} → m ≡ stamp_fault r → (m ≡ 0 → ⊥) → part ≡ Refused m 0 → Begins rs before after part
+  pub stamp_refused : {m : ℕ} {part : PartAnswer} {after : List ℕ} → m ≡ stamp_fault r → (m ≡ 0 → ⊥) → part ≡ Err (refusal m 0) → Begins rs before after part
   unfolding stamp_fault
   stamp_refused f z q = rw q (record { begun = rw (row_refused (of_kind 16) stamp_of stamp_row (stamp_checks 22) refl (λ s. (tt, (tt, (tt, tt)))) rs 0 e f z) })
 
@@ -61,10 +59,10 @@ module _ (rs : List Row) (before : List ℕ) {r : Row} (e : r ≡ get_or rs 0 no
     pub block_there : 1 ≤ length rs
     block_there = stamped.0
 
-    abbrev ScalerIn : List ℕ → Part → List ℕ → Type 0
+    abbrev ScalerIn : List ℕ → PartAnswer → List ℕ → Type 0
     ScalerIn = Writes 32 scaler_words (scaler 1 (drop 1 rs)) rs 0
 
-    pub scaler_refused : {part part' after : List ℕ} {x : Part} {m p : ℕ} → ScalerIn part x part' → x ≡ Refused m p → Begins rs before after x
+    pub scaler_refused : {part part' after : List ℕ} {x : PartAnswer} {m p : ℕ} → ScalerIn part x part' → x ≡ Err (refusal m p) → Begins rs before after x
     scaler_refused w q = rw q (record { begun = rw (stamped.1, unwritten 32 scaler_words (scaler 1 (drop 1 rs)) (rw q at w).scanned) })
 
     -- the stamp and the scaler are written, as k longwords
@@ -76,9 +74,9 @@ module _ (rs : List Row) (before : List ℕ) {r : Row} (e : r ≡ get_or rs 0 no
       pub counted : k ≡ 4 + length (scaler_words values)
       pub stored : b ≡ store_words 32 before 0 (stamp_words (stamp_of r) ++ scaler_words values)
 
-    pub scaler_done : {b₁ b₂ part part' : List ℕ} {start at n : ℕ} {x : Part} → b₁ ≡ store_words 32 before 0 (stamp_words (stamp_of r)) → start ≡ min 4 (length b₁)
+    pub scaler_done : {b₁ b₂ part part' : List ℕ} {start at n : ℕ} {x : PartAnswer} → b₁ ≡ store_words 32 before 0 (stamp_words (stamp_of r)) → start ≡ min 4 (length b₁)
         → part ≡ take (length b₁ - start) (drop start b₁)
-        → ScalerIn part x part' → x ≡ Done at n → b₂ ≡ put_mid start (length b₁ - start) b₁ part' → Scaled b₂ at (4 + n)
+        → ScalerIn part x part' → x ≡ Ok (part at n) → b₂ ≡ put_mid start (length b₁ - start) b₁ part' → Scaled b₂ at (4 + n)
     scaler_done {b₁} {b₂} {part} {part'} {start} {at} {n} stored s lent w q back = go (wrote 32 scaler_words (scaler 1 (drop 1 rs)) (rw q at w).scanned)
       where
         go : Wrote 32 scaler_words (scaler 1 (drop 1 rs)) 0 part at n part' → Scaled b₂ at (4 + n)
@@ -95,16 +93,16 @@ module _ (rs : List Row) (before : List ℕ) {r : Row} (e : r ≡ get_or rs 0 no
             }
 
     -- and the pattern unit, if any
-    module _ {b₂ : List ℕ} {at k : ℕ} (t : Scaled b₂ at k) {part part' : List ℕ} {x : Part} (w : Writes 32 (if_any pattern_words) (optionally at_pattern pattern_unit at (drop at rs)) rs 0
+    module _ {b₂ : List ℕ} {at k : ℕ} (t : Scaled b₂ at k) {part part' : List ℕ} {x : PartAnswer} (w : Writes 32 (if_any pattern_words) (optionally at_pattern pattern_unit at (drop at rs)) rs 0
         part x part') where
-      pub pattern_refused : {after : List ℕ} {m p : ℕ} → x ≡ Refused m p → Begins rs before after x
+      pub pattern_refused : {after : List ℕ} {m p : ℕ} → x ≡ Err (refusal m p) → Begins rs before after x
       pattern_refused q = rw q (record { begun = rw (stamped.1, t.parsed, unwritten 32 (if_any pattern_words) (optionally at_pattern pattern_unit at (drop at rs)) (rw q at w).scanned) })
 
-      pub begins : {b₃ : List ℕ} {start at' n : ℕ} → start ≡ min k (length b₂) → part ≡ take (length b₂ - start) (drop start b₂) → x ≡ Done at' n → b₃ ≡ put_mid start (length b₂ - start) b₂ part'
-          → Begins rs before b₃ (Done at' (k + n))
+      pub begins : {b₃ : List ℕ} {start at' n : ℕ} → start ≡ min k (length b₂) → part ≡ take (length b₂ - start) (drop start b₂) → x ≡ Ok (part at' n) → b₃ ≡ put_mid start (length b₂ - start) b₂ part'
+          → Begins rs before b₃ (Ok (part at' (k + n)))
       begins {b₃} {start} {at'} {n} s lent q back = go (wrote 32 (if_any pattern_words) (optionally at_pattern pattern_unit at (drop at rs)) (rw q at w).scanned)
         where
-          go : Wrote 32 (if_any pattern_words) (optionally at_pattern pattern_unit at (drop at rs)) 0 part at' n part' → Begins rs before b₃ (Done at' (k + n))
+          go : Wrote 32 (if_any pattern_words) (optionally at_pattern pattern_unit at (drop at rs)) 0 part at' n part' → Begins rs before b₃ (Ok (part at' (k + n)))
           go v =
               let o = v.value in
               let ss = scaler_words t.values in
@@ -124,25 +122,25 @@ module _ (rs : List Row) (before : List ℕ) {r : Row} (e : r ≡ get_or rs 0 no
               }
 
 -- from the parts before the modules to the event
-module _ {rs : List Row} {before b : List ℕ} {part : Part} (s : Begins rs before b part) where
+module _ {rs : List Row} {before b : List ℕ} {part : PartAnswer} (s : Begins rs before b part) where
   abbrev Laid : Answer → List ℕ → Type 0
   Laid = ScannedBy (writing_all 32) words (event_rows_up_to ended 0 rs) 0 before
 
-  pub head_refused : {n p : ℕ} (after : List ℕ) → part ≡ Refused n p → Laid (answer.Refused n p) after
+  pub head_refused : {n p : ℕ} (after : List ℕ) → part ≡ Err (refusal n p) → Laid (Err (refusal n p)) after
   head_refused after q = scanned_refuse words 0 before after (begins_refused s q)
 
-  module _ {at k : ℕ} (q : part ≡ Done at k) where
+  module _ {at k : ℕ} (q : part ≡ Ok (part at k)) where
     pub modules_there : (at ≤ length rs) × (k ≤ 4 * at)
     modules_there = let h = begins_done s q in (h.inside, h.few)
 
-    module _ {x : Part} {after : List ℕ} (m : Writes 32 (each module_words) (many one_module geos ended [] at (drop at rs)) rs k b x after) where
+    module _ {x : PartAnswer} {after : List ℕ} (m : Writes 32 (each module_words) (many one_module geos ended [] at (drop at rs)) rs k b x after) where
       whole : ScannedBy (writing_part 32) words (event_rows_up_to ended 0 rs) 0 before x after
       whole = (begins_done s q).leads.leads x after m.scanned
 
-      pub event_refused : {n p : ℕ} → x ≡ Refused n p → Laid (answer.Refused n p) after
+      pub event_refused : {n p : ℕ} → x ≡ Err (refusal n p) → Laid (Err (refusal n p)) after
       event_refused = all_refused 32 words whole
 
-      pub event_laid : {j e : ℕ} → x ≡ Done j e → Laid (answer.Accepted e) after
+      pub event_laid : {j e : ℕ} → x ≡ Ok (part j e) → Laid (Ok e) after
       event_laid = all_done 32 words whole
 
 -- what an event taken is written as

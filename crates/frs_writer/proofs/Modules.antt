@@ -8,8 +8,6 @@ use mathlib.Core.List.{List, [], ◌∷◌, ◌++◌, map}
 use lib.Dec.{ltb→lt}
 use lib.ListN.{length, get_or, take, drop, length-append, length-map}
 use borrow.Rule.Slice.PartMut.{put_mid}
-use Rattle.event.specs.declared.Part.{Part}
-use Rattle.event.specs.declared.Part.TheVariants.{Done, Refused}
 use Rattle.event.specs.declared.Row.{Row}
 use Rattle.event.specs.Parser.{ended, many, each}
 use Rattle.event.specs.Channels.{insert, Blocked}
@@ -25,6 +23,8 @@ use Rattle.frs_layout.specs.Layout.{value_word, footer_word, module_words, value
 use Rattle.frs_layout.specs.Writing.{one_module}
 use Rattle.frs_layout.proofs.Rows.{codes_module}
 use Rattle.frs_writer.specs.Parts.{WritesModule}
+use Rattle.event.specs.Refusal.{PartAnswer, part, refusal}
+use Rattle.std.specs.Prelude.{Err, Ok}
 
 -- the set holds the GEOs before
 abbrev pub Modules : List Row → (set : ℕ) → ℕ → ℕ → List ℕ → ℕ → ℕ → List ℕ → Type 0
@@ -45,17 +45,17 @@ geo_of_row (empty g) l {r} q = let u : empty_row g ≡ r = cc in ap (λ (x : Row
 geo_of_row (with_data g vs c) l {r} q = let u : module_row g (length vs) c ≡ r = cc in ap (λ (x : Row). x.unit) u
 
 module _ {rs : List Row} {set first laid i k : ℕ} {b₀ b : List ℕ} (h : Modules rs set first laid b₀ i k b) where
-  abbrev Written : Part → List ℕ → Type 0
+  abbrev Written : PartAnswer → List ℕ → Type 0
   Written = Writes 32 (each module_words) (many one_module geos ended [] first (drop first rs)) rs laid b₀
 
-  pub modules_done : length rs ≤ i → Written (Done i k) b
+  pub modules_done : length rs ≤ i → Written (Ok (part i k)) b
   modules_done = parts_done 32 h
 
-  module _ (below : i < length rs) {start : ℕ} (s : start ≡ min k (length b)) {part : List ℕ} {written : Part} (w : WritesModule set rs i (take (length b - start) (drop start b)) written part) where
-    pub module_refused : {n p : ℕ} {r : Part} (after : List ℕ) → written ≡ Refused n p → r ≡ Refused n p → Written r after
+  module _ (below : i < length rs) {start : ℕ} (s : start ≡ min k (length b)) {part : List ℕ} {written : PartAnswer} (w : WritesModule set rs i (take (length b - start) (drop start b)) written part) where
+    pub module_refused : {n p : ℕ} {r : PartAnswer} (after : List ℕ) → written ≡ Err (refusal n p) → r ≡ Err (refusal n p) → Written r after
     module_refused after q z = rw z (part_refused 32 codes_module (λ m l. tt) tt go_on few_words h below s refl (w.writes h.state h.holds) after q)
 
-    module _ {j n : ℕ} (q : written ≡ Done j n) where
+    module _ {j n : ℕ} (q : written ≡ Ok (part j n)) where
       pub module_within : (j ≤ length rs) × (i < j) × (k + n ≤ 4 * j)
       module_within = part_within 32 codes_module (λ m l. tt) tt go_on few_words h below s refl (w.writes h.state h.holds) q
 

@@ -6,8 +6,6 @@ use mathlib.Core.Path.{◌≡◌, refl, sym, ap, ◌∙◌}
 use mathlib.Core.List.{List, [], ◌∷◌, map}
 use lib.ListN.{length, get_or, drop, length-append, length-map}
 use borrow.Author.Tests.{eq-eqb, ne_eqb}
-use Rattle.event.specs.declared.Part.{Part}
-use Rattle.event.specs.declared.Part.TheVariants.{Done, Refused}
 use Rattle.event.specs.declared.Row.{Row}
 use Rattle.event.specs.Parser.{Result, ok, times, each}
 use Rattle.event.specs.Channels.{Blocked}
@@ -27,13 +25,15 @@ use Rattle.frs_writer.specs.Faults.{header_field_fault, header_fault}
 use Rattle.frs_writer.specs.Parts.{value_words, WritesModule}
 use Rattle.frs_writer.proofs.Parts.{block_stored}
 use Rattle.frs_writer.proofs.Headers.{fields_kept, header_seen}
+use Rattle.event.specs.Refusal.{PartAnswer, part, refusal}
+use Rattle.std.specs.Prelude.{Err, Ok}
 
 numbered : (seen : List ℕ) (h : Header) → Numbered (header_checks seen h)
 numbered seen (empty_header g) = (tt, (tt, (tt, (tt, tt))))
 numbered seen (data_header g n c) = (tt, (tt, (tt, (tt, (tt, (tt, (tt, tt)))))))
 
 module _ (set : ℕ) (rs : List Row) (i : ℕ) (b : List ℕ) {r : Row} (e : r ≡ get_or rs i no_row) where
-  pub header_refused : {m : ℕ} {part : Part} (after : List ℕ) → m ≡ header_fault set r → (m ≡ 0 → ⊥) → part ≡ Refused m i → WritesModule set rs i b part after
+  pub header_refused : {m : ℕ} {part : PartAnswer} (after : List ℕ) → m ≡ header_fault set r → (m ≡ 0 → ⊥) → part ≡ Err (refusal m i) → WritesModule set rs i b part after
   header_refused after f z q = record {
     writes = λ seen s. writes_refused 32 module_words (rw (row_refused starts_module header_of first_row (header_checks seen) refl (numbered seen) rs i e (f ∙ header_seen r s) z)) q;
   }
@@ -46,7 +46,7 @@ module _ (set : ℕ) (rs : List Row) (i : ℕ) (b : List ℕ) {r : Row} (e : r �
     taken : {seen : List ℕ} → Blocked 0 set seen → row_with starts_module header_of first_row (header_checks seen) i (drop i rs) ≡ ok (header_of r) (i + 1) (drop (i + 1) rs)
     taken {seen} s = (row_taken starts_module header_of first_row (header_checks seen) refl (numbered seen) rs i e (f ∙ header_seen r s)).1
 
-    pub empty_done : r.kind ≡ 20 → {w : ℕ} {after : List ℕ} → w ≡ empty_word r.unit → after ≡ store_word 32 b 0 w → WritesModule set rs i b (Done (i + 1) 1) after
+    pub empty_done : r.kind ≡ 20 → {w : ℕ} {after : List ℕ} → w ≡ empty_word r.unit → after ≡ store_word 32 b 0 w → WritesModule set rs i b (Ok (part (i + 1) 1)) after
     empty_done is w q = record {
       writes = λ seen s. writes_done 32 module_words {a = empty r.unit} {l = drop (i + 1) rs} (rw (taken s, eq-eqb 20 r.kind (sym is))) refl refl (q ∙ ap (store_word 32 b 0) w)
           (omega (arith, there)) (omega arith);
@@ -56,13 +56,13 @@ module _ (set : ℕ) (rs : List Row) (i : ℕ) (b : List ℕ) {r : Row} (e : r �
       abbrev values : Result Row (List Value)
       values = times (value r.unit) channels r.channel [] (i + 1) (drop (i + 1) rs)
 
-      module _ {b₁ : List ℕ} {written : Part} (v : Writes 32 (each (value_words r.unit)) values rs 1 b written b₁) where
-        pub values_refused : {m p : ℕ} {part : Part} (after : List ℕ) → written ≡ Refused m p → part ≡ Refused m p → WritesModule set rs i b part after
+      module _ {b₁ : List ℕ} {written : PartAnswer} (v : Writes 32 (each (value_words r.unit)) values rs 1 b written b₁) where
+        pub values_refused : {m p : ℕ} {part : PartAnswer} (after : List ℕ) → written ≡ Err (refusal m p) → part ≡ Err (refusal m p) → WritesModule set rs i b part after
         values_refused after q z = record {
           writes = λ seen s. writes_refused 32 module_words (rw (taken s, ne_eqb 20 r.kind (λ k. not (sym k)), unwritten 32 (each (value_words r.unit)) values (rw q at v).scanned)) z;
         }
 
-        module _ {j k : ℕ} (q : written ≡ Done j k) where
+        module _ {j k : ℕ} (q : written ≡ Ok (part j k)) where
           these : Wrote 32 (each (value_words r.unit)) values 1 b j k b₁
           these = wrote 32 (each (value_words r.unit)) values (rw q at v).scanned
 
@@ -81,10 +81,10 @@ module _ (set : ℕ) (rs : List Row) (i : ℕ) (b : List ℕ) {r : Row} (e : r �
               (ap (λ (y : Row). y.channel) x, omega (arith, u.1, length-map these.value (value_row r.unit)), u.2)
 
           pub data_done : {h t : ℕ} {b₂ b₃ : List ℕ} → h ≡ header_word r.unit r.channel → b₂ ≡ store_word 32 b₁ 0 h → t ≡ footer_word r.unit r.datum → b₃ ≡ store_word 32 b₂ k t
-              → WritesModule set rs i b (Done j (k + 1)) b₃
+              → WritesModule set rs i b (Ok (part j (k + 1))) b₃
           data_done {b₂ = b₂} {b₃} hd first-stored tl last_stored = record { writes = λ seen s. go s }
             where
-              go : {seen : List ℕ} → Blocked 0 set seen → Writes 32 module_words (one_module seen i (drop i rs)) rs 0 b (Done j (k + 1)) b₃
+              go : {seen : List ℕ} → Blocked 0 set seen → Writes 32 module_words (one_module seen i (drop i rs)) rs 0 b (Ok (part j (k + 1))) b₃
               go s =
                   let vs = these.value in
                   let ws = map (value_word r.unit) vs in

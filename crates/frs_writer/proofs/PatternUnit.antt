@@ -7,8 +7,6 @@ use mathlib.Core.List.{List, [], ◌∷◌}
 use mathlib.Core.Option.{some, none}
 use lib.ListN.{length, get_or, drop}
 use borrow.Author.Tests.{eq-eqb, ne_eqb}
-use Rattle.event.specs.declared.Part.{Part}
-use Rattle.event.specs.declared.Part.TheVariants.{Done, Refused}
 use Rattle.event.specs.declared.Row.{Row}
 use Rattle.event.specs.Parser.{optionally, if_any}
 use Rattle.event.specs.Writing.{of_kind, no_row}
@@ -18,6 +16,8 @@ use Rattle.event.proofs.WritingTurns.{writes_refused, writes_done}
 use Rattle.frs_layout.specs.Layout.{pattern_words, pattern_row, pattern_checks}
 use Rattle.frs_layout.specs.Writing.{pattern_of, pattern_unit, at_pattern}
 use Rattle.frs_writer.specs.Faults.{pattern_fault}
+use Rattle.event.specs.Refusal.{PartAnswer, part, refusal}
+use Rattle.std.specs.Prelude.{Err, Ok}
 
 next_row : (rs : List Row) (i : ℕ) → at_pattern (drop i rs) ≡ of_kind 19 (get_or rs i no_row)
 next_row [] zero = refl
@@ -29,14 +29,14 @@ module _ (rs : List Row) (i : ℕ) (b : List ℕ) {r : Row} (e : r ≡ get_or rs
   looks : at_pattern (drop i rs) ≡ of_kind 19 r
   looks = next_row rs i ∙ ap (of_kind 19) (sym e)
 
-  abbrev Written : Part → List ℕ → Type 0
+  abbrev Written : PartAnswer → List ℕ → Type 0
   Written = Writes 32 (if_any pattern_words) (optionally at_pattern pattern_unit i (drop i rs)) rs 0 b
 
-  pub no_pattern : (r.kind ≡ 19 → ⊥) → i ≤ length rs → Written (Done i 0) b
+  pub no_pattern : (r.kind ≡ 19 → ⊥) → i ≤ length rs → Written (Ok (part i 0)) b
   no_pattern n l = writes_done 32 (if_any pattern_words) {a = none} {l = drop i rs} (rw (looks, ne_eqb 19 r.kind (λ q. n (sym q)))) refl refl refl l (omega arith)
 
   module _ (is : r.kind ≡ 19) where
-    pub pattern_refused : {m : ℕ} {part : Part} (after : List ℕ) → m ≡ pattern_fault r → (m ≡ 0 → ⊥) → part ≡ Refused m i → Written part after
+    pub pattern_refused : {m : ℕ} {part : PartAnswer} (after : List ℕ) → m ≡ pattern_fault r → (m ≡ 0 → ⊥) → part ≡ Err (refusal m i) → Written part after
     unfolding pattern_fault
     pattern_refused after f z q = writes_refused 32 (if_any pattern_words) (rw (
       looks,
@@ -44,7 +44,7 @@ module _ (rs : List Row) (i : ℕ) (b : List ℕ) {r : Row} (e : r ≡ get_or rs
       row_refused (of_kind 19) pattern_of pattern_row (pattern_checks 22) refl (λ p. (tt, (tt, tt))) rs i e f z,
     )) q
 
-    pub pattern_done : {after : List ℕ} → 0 ≡ pattern_fault r → after ≡ store_words 32 b 0 (pattern_words (pattern_of r)) → Written (Done (i + 1) 4) after
+    pub pattern_done : {after : List ℕ} → 0 ≡ pattern_fault r → after ≡ store_words 32 b 0 (pattern_words (pattern_of r)) → Written (Ok (part (i + 1) 4)) after
     unfolding pattern_fault
     pattern_done f s =
         let t = row_taken (of_kind 19) pattern_of pattern_row (pattern_checks 22) refl (λ p. (tt, (tt, tt))) rs i e f in

@@ -5,8 +5,6 @@ use native.Mathlib.Omega.{arith}
 use mathlib.Core.Path.{◌≡◌, refl, sym, ap, ◌∙◌}
 use mathlib.Core.List.{List, [], ◌∷◌}
 use lib.ListN.{length, get_or, drop, length-append}
-use Rattle.event.specs.declared.Part.{Part}
-use Rattle.event.specs.declared.Part.TheVariants.{Done, Refused}
 use Rattle.event.specs.declared.Row.{Row}
 use Rattle.event.specs.Parser.{Result, ok, times, each}
 use Rattle.event.specs.Words.{word_alone, store_word}
@@ -24,6 +22,8 @@ use Rattle.frs_layout.proofs.RowCount.{scaler_count}
 use Rattle.frs_layout.proofs.Rows.{codes_scaler}
 use Rattle.frs_writer.specs.Faults.{block_fault, scaler_fault}
 use Rattle.frs_writer.proofs.Parts.{block_stored}
+use Rattle.event.specs.Refusal.{PartAnswer, part, refusal}
+use Rattle.std.specs.Prelude.{Err, Ok}
 
 -- `index` of n scalers are stored
 abbrev Stored : (n index : ℕ) → ℕ × ℕ → Type 0
@@ -33,17 +33,17 @@ abbrev pub Scalers : List Row → (n index : ℕ) → List ℕ → ℕ → ℕ �
 Scalers rs n index = WritesOn 32 (counted scaler_at next_index) word_alone (Stored n index) rs (n, 0) 2 1
 
 module _ {rs : List Row} {n index i k : ℕ} {b₀ b : List ℕ} (h : Scalers rs n index b₀ i k b) where
-  abbrev Written : Part → List ℕ → Type 0
+  abbrev Written : PartAnswer → List ℕ → Type 0
   Written = Writes 32 (each word_alone) (times scaler_at next_index n 0 2 (drop 2 rs)) rs 1 b₀
 
-  pub scalers_done : n ≤ index → Written (Done i k) b
+  pub scalers_done : n ≤ index → Written (Ok (part i k)) b
   scalers_done l = rows_done 32 h (no_more scaler_at next_index h.state i (drop i rs) (let s = h.holds in omega arith))
 
   module _ (less : index < n) {r : Row} (e : r ≡ get_or rs i no_row) where
     left : h.state.0 ≡ suc (n - suc index)
     left = let s = h.holds in omega arith
 
-    pub scaler_refused : {m : ℕ} {part : Part} (after : List ℕ) → m ≡ scaler_fault index r → (m ≡ 0 → ⊥) → part ≡ Refused m i → Written part after
+    pub scaler_refused : {m : ℕ} {part : PartAnswer} (after : List ℕ) → m ≡ scaler_fault index r → (m ≡ 0 → ⊥) → part ≡ Err (refusal m i) → Written part after
     unfolding scaler_fault
     scaler_refused after f z q = rw q (rows_refused 32 h (one_more scaler_at next_index h.state i (drop i rs) (n - suc index) left) after
         (rw h.holds.1 (row_refused (of_kind 18) (λ r. r.datum) (scaler_row index) (scaler_checks 22) refl (λ v. (tt, tt)) rs i e f z)))
@@ -58,10 +58,10 @@ module _ {rs : List Row} {n index i k : ℕ} {b₀ b : List ℕ} (h : Scalers rs
 
 -- the block around them
 module _ (rs : List Row) (b : List ℕ) {r : Row} (e : r ≡ get_or rs 1 no_row) where
-  abbrev BlockWritten : Part → List ℕ → Type 0
+  abbrev BlockWritten : PartAnswer → List ℕ → Type 0
   BlockWritten = Writes 32 scaler_words (scaler 1 (drop 1 rs)) rs 0 b
 
-  pub block_refused : {m : ℕ} {part : Part} (after : List ℕ) → m ≡ block_fault r → (m ≡ 0 → ⊥) → part ≡ Refused m 1 → BlockWritten part after
+  pub block_refused : {m : ℕ} {part : PartAnswer} (after : List ℕ) → m ≡ block_fault r → (m ≡ 0 → ⊥) → part ≡ Err (refusal m 1) → BlockWritten part after
   unfolding block_fault
   block_refused after f z q =
       let u = row_refused (of_kind 17) (λ r. r.channel) scaler_block_row (count_checks 22) refl (λ n. (tt, (tt, tt))) rs 1 e f z in
@@ -81,11 +81,11 @@ module _ (rs : List Row) (b : List ℕ) {r : Row} (e : r ≡ get_or rs 1 no_row)
     block_is : scaler 1 (drop 1 rs) ≡ values
     block_is = rw block_taken.1
 
-    module _ {b₁ : List ℕ} {written : Part} (s : Writes 32 (each word_alone) values rs 1 b written b₁) where
-      pub scalers_refused : {m p : ℕ} {part : Part} (after : List ℕ) → written ≡ Refused m p → part ≡ Refused m p → BlockWritten part after
+    module _ {b₁ : List ℕ} {written : PartAnswer} (s : Writes 32 (each word_alone) values rs 1 b written b₁) where
+      pub scalers_refused : {m p : ℕ} {part : PartAnswer} (after : List ℕ) → written ≡ Err (refusal m p) → part ≡ Err (refusal m p) → BlockWritten part after
       scalers_refused after q z = writes_refused 32 scaler_words (block_is ∙ unwritten 32 (each word_alone) values (rw q at s).scanned) z
 
-      module _ {j k : ℕ} (q : written ≡ Done j k) where
+      module _ {j k : ℕ} (q : written ≡ Ok (part j k)) where
         these : Wrote 32 (each word_alone) values 1 b j k b₁
         these = wrote 32 (each word_alone) values (rw q at s).scanned
 
@@ -99,7 +99,7 @@ module _ (rs : List Row) (b : List ℕ) {r : Row} (e : r ≡ get_or rs 1 no_row)
             let v : scaler_block_row (length t.value) ≡ r = cc (w, rows_from_lem rs 1 block_taken.0, e) in
             (ap (λ (x : Row). x.channel) v, omega (arith, u.1, scaler_count 0 t.value), u.2, t.counted ∙ rw (each_alone t.value))
 
-        pub block_done : {b₂ b₃ : List ℕ} → b₂ ≡ store_word 32 b₁ 0 (header_word scaler_geo r.channel) → b₃ ≡ store_word 32 b₂ k scaler_end → BlockWritten (Done j (k + 1)) b₃
+        pub block_done : {b₂ b₃ : List ℕ} → b₂ ≡ store_word 32 b₁ 0 (header_word scaler_geo r.channel) → b₃ ≡ store_word 32 b₂ k scaler_end → BlockWritten (Ok (part j (k + 1))) b₃
         block_done first last =
             let t = these in
             let vs = t.value in

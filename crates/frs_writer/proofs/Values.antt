@@ -5,8 +5,6 @@ use native.Mathlib.Omega.{arith}
 use mathlib.Core.Path.{◌≡◌, refl, ap, ◌∙◌}
 use mathlib.Core.List.{List, []}
 use lib.ListN.{length, get_or, drop}
-use Rattle.event.specs.declared.Part.{Part}
-use Rattle.event.specs.declared.Part.TheVariants.{Done, Refused}
 use Rattle.event.specs.declared.Row.{Row}
 use Rattle.event.specs.Parser.{times, each}
 use Rattle.event.specs.Channels.{insert, Blocked}
@@ -23,6 +21,8 @@ use Rattle.frs_layout.specs.Writing.{value_of, value}
 use Rattle.frs_writer.specs.Faults.{value_fault}
 use Rattle.frs_writer.specs.Parts.{value_words}
 use Rattle.frs_writer.proofs.RowFaults.{value_seen, value_fields}
+use Rattle.event.specs.Refusal.{PartAnswer, part, refusal}
+use Rattle.std.specs.Prelude.{Err, Ok}
 
 -- so many are left, and the set holds the channels before
 abbrev Left : (left set : ℕ) → ℕ × List ℕ → Type 0
@@ -32,17 +32,17 @@ abbrev pub Values : (g : ℕ) → List Row → (n left set : ℕ) → ℕ → Li
 Values g rs n left set first = WritesOn 32 (counted (value g) channels) (value_words g) (Left left set) rs (n, []) first 1
 
 module _ (g : ℕ) {rs : List Row} {n left set first i k : ℕ} {b₀ b : List ℕ} (h : Values g rs n left set first b₀ i k b) where
-  abbrev Written : Part → List ℕ → Type 0
+  abbrev Written : PartAnswer → List ℕ → Type 0
   Written = Writes 32 (each (value_words g)) (times (value g) channels n [] first (drop first rs)) rs 1 b₀
 
-  pub values_done : left ≤ 0 → Written (Done i k) b
+  pub values_done : left ≤ 0 → Written (Ok (part i k)) b
   values_done l = rows_done 32 h (no_more (value g) channels h.state i (drop i rs) (let s = h.holds.0 in omega arith))
 
   module _ (more : 0 < left) {r : Row} (e : r ≡ get_or rs i no_row) where
     one : h.state.0 ≡ suc (left - 1)
     one = let s = h.holds.0 in omega arith
 
-    pub value_refused : {m : ℕ} {part : Part} (after : List ℕ) → m ≡ value_fault g set r → (m ≡ 0 → ⊥) → part ≡ Refused m i → Written part after
+    pub value_refused : {m : ℕ} {part : PartAnswer} (after : List ℕ) → m ≡ value_fault g set r → (m ≡ 0 → ⊥) → part ≡ Err (refusal m i) → Written part after
     value_refused after f z q = rw q (rows_refused 32 h (one_more (value g) channels h.state i (drop i rs) (left - 1) one) after
         (row_refused (of_kind 22) value_of (value_row g) (value_checks 22 22 h.state.1) refl (λ v. (tt, (tt, (tt, tt)))) rs i e (f ∙ value_seen g r h.holds.1) z))
 
