@@ -4,7 +4,7 @@ use Prim.Native.Nat.{ℕ, zero, suc, ◌+◌, ◌-◌, ◌%◌, ◌^◌, ◌≤�
 use native.Mathlib.Nat.{le_refl}
 use native.Mathlib.Omega.{arith}
 use mathlib.Core.Path.{◌≡◌, refl, ap, sym, ◌∙◌}
-use mathlib.Core.Bool.{Bool, true, false, cond}
+use mathlib.Core.Bool.{Bool, true, false}
 use mathlib.Core.List.{List, [], ◌∷◌, append-nil}
 use lib.Dec.{eqb, ltb}
 use lib.ListN.{length, get_or, take, drop}
@@ -29,7 +29,7 @@ use Rattle.frs_layout.specs.Layout.{header_word, scaler_checks, scaler_row, scal
 use Rattle.frs_layout.specs.Reading.{stamp, block_of, scaler_value, scaler_values, scaler_footer, scaler}
 use Rattle.frs_layout.proofs.RowCount.{scaler_count}
 use Rattle.frs_layout.proofs.Words.{codes_scaler_values}
-use Rattle.frs_reader.specs.Beginning.{stamp_at, Stamped}
+use Rattle.frs_reader.specs.Beginning.{Stamped}
 use Rattle.frs_reader.specs.Longword.{under}
 use Rattle.frs_reader.proofs.Longwords.{under_given, under_refused}
 use Rattle.frs_reader.proofs.Blocks.{lent, block_short, values_read}

@@ -8,7 +8,7 @@ use mathlib.Core.List.{List, [], ◌∷◌, ◌++◌, append_assoc}
 use lib.Dec.{leb}
 use lib.ListN.{length, drop, length-append}
 use borrow.Author.Tests.{lt-leb, leb-true}
-use Rattle.std.specs.Prelude.{Result, Ok, Err}
+use Rattle.std.specs.Prelude.{Ok, Err}
 use Rattle.event.specs.declared.Part.{Part}
 use Rattle.event.specs.declared.refusal.Refusal.{Refusal}
 use Rattle.event.specs.declared.Row.{Row}
@@ -20,7 +20,7 @@ use Rattle.event.specs.Scanning.{store_rows, RefusedAs, Scanned, PartOf}
 use Rattle.event.proofs.Elements.{is_between}
 use Rattle.event.proofs.Leads.{leads_part, store_append, scanned_refuse}
 use Rattle.frs_layout.specs.Layout.{stamp_row, scaler_rows, pattern_rows, module_rows, rows, geos, smallest_event, largest_event}
-use Rattle.frs_layout.specs.Reading.{stamp, scaler, pattern_unit, at_pattern, one_module, event_parser}
+use Rattle.frs_layout.specs.Reading.{scaler, pattern_unit, at_pattern, one_module, event_parser}
 use Rattle.frs_reader.specs.Beginning.{stamp_at, Stamped, Begins}
 
 module _ (ws : List ℕ) where

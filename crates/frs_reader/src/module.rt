@@ -89,7 +89,12 @@ fn store_value(rows: &mut [u32], at: usize, geo: u32, w: u32)
 }
 
 // The module at a place, after the rows counted. Its data longwords are judged first, and their rows stored together, behind its footer's test.
-pub(crate) fn module(words: &[u32], from: Part, seen: u32, rows: &mut [u32]) -> Result<Part, Refusal>
+pub(crate) fn module(
+    words: &[u32],
+    from: Part,
+    seen: u32,
+    rows: &mut [u32],
+) -> Result<Part, Refusal>
     requires { (from.next < length words.now) × (from.count ≤ from.next) }
     ensures { ReadsModule seen words.now from rows.old rows.new result }
 {

@@ -26,7 +26,11 @@ pub(crate) fn check_block(row: Row, place: usize) -> Result<(), Refusal>
     if row.kind != Kind::ScalerBlock as u32 {
         return refuse(Fault::Kind, place);
     }
-    if row.unit != frs_format::SCALER_GEO || row.channel < 1 || frs_format::LARGEST_COUNT < row.channel || row.datum != 0 {
+    if row.unit != frs_format::SCALER_GEO
+        || row.channel < 1
+        || frs_format::LARGEST_COUNT < row.channel
+        || row.datum != 0
+    {
         return refuse(Fault::Field, place);
     }
     Ok(())

@@ -19,7 +19,7 @@ returns-then-row-lt1 c = rw (← header_wrong c.args.row c.args.seen (data_wrong
 pub returns-then-row-gt31 : goal.returns-then-row-gt31
 returns-then-row-gt31 c =
     let own : Own c.args.row = elim c.if-row.branch [
-      then-row+else-row-ne0+else-row-ne0-2 w ↦ inl (w.if-row.true, w.if-row-ne0.false, w.if-row-ne0-2.false)
+      | then-row+else-row-ne0+else-row-ne0-2 w ↦ inl (w.if-row.true, w.if-row-ne0.false, w.if-row-ne0-2.false)
       | else-row+else-row-2+else-row-lt1+else-row-gt-LARGEST_COUNT+else-row-gt65535 w ↦ inr (w.if-row-2.false, omega arith, omega arith, omega arith)
     ] in
     rw (← header_geo c.args.row c.args.seen own (geo_barred _ (λ k. omega (arith, c.then-row-gt31.either, k)))) c.refuse-then-row-gt31.ensures
@@ -27,7 +27,7 @@ returns-then-row-gt31 c =
 pub returns-then-contains : goal.returns-then-contains
 returns-then-contains c =
     let own : Own c.args.row = elim c.if-row.branch [
-      then-row+else-row-ne0+else-row-ne0-2 w ↦ inl (w.if-row.true, w.if-row-ne0.false, w.if-row-ne0-2.false)
+      | then-row+else-row-ne0+else-row-ne0-2 w ↦ inl (w.if-row.true, w.if-row-ne0.false, w.if-row-ne0-2.false)
       | else-row+else-row-2+else-row-lt1+else-row-gt-LARGEST_COUNT+else-row-gt65535 w ↦ inr (w.if-row-2.false, omega arith, omega arith, omega arith)
     ] in
     rw (← header_new c.args.row c.args.seen own (geo_free _ c.if-row-gt31.false c.if-row-eq-PATTERN_GEO.false c.if-row-eq-SCALER_GEO.false) (sym c.if-contains.true ∙ c.contains.ensures)) c.refuse-then-contains.ensures
@@ -35,7 +35,7 @@ returns-then-contains c =
 pub returns : goal.returns
 returns c =
     let own : Own c.args.row = elim c.if-row.branch [
-      then-row+else-row-ne0+else-row-ne0-2 w ↦ inl (w.if-row.true, w.if-row-ne0.false, w.if-row-ne0-2.false)
+      | then-row+else-row-ne0+else-row-ne0-2 w ↦ inl (w.if-row.true, w.if-row-ne0.false, w.if-row-ne0-2.false)
       | else-row+else-row-2+else-row-lt1+else-row-gt-LARGEST_COUNT+else-row-gt65535 w ↦ inr (w.if-row-2.false, omega arith, omega arith, omega arith)
     ] in
     rw (← header_new c.args.row c.args.seen own (geo_free _ c.if-row-gt31.false c.if-row-eq-PATTERN_GEO.false c.if-row-eq-SCALER_GEO.false) (sym c.if-contains.false ∙ c.contains.ensures))
