@@ -2,6 +2,7 @@
 ghost use Rattle.std.specs.Prelude.{◌/◌, ◌<◌, ◌≤◌, ◌≡◌, map, length};
 ghost use Rattle.event.specs.Rows.{store_row};
 ghost use Rattle.event.specs.Scanning.{store_rows};
+ghost use Rattle.frs_reader.specs.Beginning.{Within};
 ghost use Rattle.frs_reader.specs.Modules.{opened_of, row_of, ValuesJudged, ReadsModule};
 
 use crate::longword::{channel_of, check_footer, check_header, check_value, flag_of, geo_of, word};
@@ -95,7 +96,7 @@ pub(crate) fn module(
     seen: u32,
     rows: &mut [u32],
 ) -> Result<Part, Refusal>
-    requires { (from.next < length words.now) × (from.count ≤ from.next) }
+    requires { Within words.now from × (from.next < length words.now) }
     ensures { ReadsModule seen words.now from rows.old rows.new result }
 {
     let opened = open_module(words, from.next, seen)?;
