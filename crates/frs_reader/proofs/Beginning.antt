@@ -4,17 +4,16 @@ use Prim.Native.Nat.{ℕ, zero, suc, ◌+◌, ◌-◌, ◌%◌, ◌^◌, ◌≤�
 use native.Mathlib.Nat.{le_refl}
 use native.Mathlib.Omega.{arith}
 use mathlib.Core.Path.{◌≡◌, refl, ap, sym, ◌∙◌}
-use mathlib.Core.Bool.{Bool, true, false, cond}
+use mathlib.Core.Bool.{Bool, true}
 use mathlib.Core.List.{List, [], ◌∷◌, append-nil}
 use lib.Dec.{eqb, ltb}
 use lib.ListN.{length, get_or, take, drop}
 use lib.Seq.{slice, slice_empty, length-slice}
-use borrow.Author.Tests.{eq-eqb, ne_eqb, eqb-true, lt-ltb, le-leb, lt-leb}
-use Rattle.std.specs.Prelude.{Result, Ok, Err}
+use borrow.Author.Tests.{eq-eqb, ne_eqb, lt-ltb, le-leb}
+use Rattle.std.specs.Prelude.{Ok, Err}
 use Rattle.std.proofs.lemmas.List.{drop_more, drop_all}
 use Rattle.event.specs.declared.refusal.Refusal.{Refusal}
-use Rattle.event.specs.declared.Row.{Row}
-use Rattle.event.specs.Refusal.{refusal, part}
+use Rattle.event.specs.Refusal.{part}
 use Rattle.event.specs.Parser as parser
 use Rattle.event.specs.Parser.{ok, refuse, Passed, ended, filled, alone, All}
 use Rattle.event.specs.Words.{halves}
@@ -29,10 +28,10 @@ use Rattle.frs_layout.specs.Layout.{header_word, scaler_checks, scaler_row, scal
 use Rattle.frs_layout.specs.Reading.{stamp, block_of, scaler_value, scaler_values, scaler_footer, scaler}
 use Rattle.frs_layout.proofs.RowCount.{scaler_count}
 use Rattle.frs_layout.proofs.Words.{codes_scaler_values}
-use Rattle.frs_reader.specs.Beginning.{stamp_at, Stamped}
+use Rattle.frs_reader.specs.Beginning.{Stamped}
 use Rattle.frs_reader.specs.Longword.{under}
 use Rattle.frs_reader.proofs.Longwords.{under_given, under_refused}
-use Rattle.frs_reader.proofs.Blocks.{lent, block_short, values_read}
+use Rattle.frs_reader.proofs.Blocks.{lent, values_read}
 use Rattle.frs_reader.proofs.Judged.{under_judged}
 
 -- the stamp, longword by longword
@@ -58,9 +57,6 @@ module _ (ws : List ℕ) (long : 4 ≤ length ws) where
 
   printed : stamp 0 ws ≡ stamp 0 (a ∷ b ∷ c ∷ d ∷ drop 4 ws)
   printed = ap (stamp 0) (four ws long)
-
-  pub stamp_other : (a ≡ stamp_identifier → ⊥) → {r : Result Row Refusal} → r ≡ Err (refusal 10 0) → Stamped ws r
-  stamp_other h q = rw q (record { stamp = record { number = 10; place = 0; refused = printed ∙ rw (ne_eqb a stamp_identifier h); named = refl } })
 
   module _ (e : a ≡ stamp_identifier) where
     is : eqb a stamp_identifier ≡ true
@@ -162,28 +158,11 @@ module _ (ws : List ℕ) (long : 7 ≤ length ws) where
   abbrev Scaled : parser.Result ℕ (List ℕ) → Type 0
   Scaled x = scaler 4 (drop 4 ws) ≡ x
 
-  pub scaler_low : header < header_word scaler_geo 1 → Scaled (refuse 6 4)
-  scaler_low h = rw from_header (go in_layout refl)
-    where
-      go : (x : Bool) → in_layout ≡ x → scaler 4 (header ∷ slice 5 (length ws) ws) ≡ refuse 6 4
-      go true e = let z = eqb-true header (header_word scaler_geo (header % 2 ^ 6)) e in rw (e, lt-leb 1 (header % 2 ^ 6) (omega arith))
-      go false e = rw e
-
-  pub scaler_high : header_word scaler_geo 32 < header → Scaled (refuse 6 4)
-  scaler_high h = rw from_header (go in_layout refl)
-    where
-      go : (x : Bool) → in_layout ≡ x → scaler 4 (header ∷ slice 5 (length ws) ws) ≡ refuse 6 4
-      go true e = let z = eqb-true header (header_word scaler_geo (header % 2 ^ 6)) e in rw (e, le-leb 1 (header % 2 ^ 6) (omega arith), lt-leb (header % 2 ^ 6) 32 (omega arith))
-      go false e = rw e
-
   module _ {n : ℕ} (some : 1 ≤ n) (few : n ≤ 32) (h : header ≡ header_word scaler_geo n) where
     block : Scaled (block_of 4 n scaler_values scaler_footer 5 (slice 5 (length ws) ws))
     block =
         let c : header % 2 ^ 6 ≡ n = omega arith in
         rw from_header (rw (eq-eqb header (header_word scaler_geo (header % 2 ^ 6)) (omega arith), c, le-leb 1 n some, le-leb n 32 few))
-
-    pub scaler_short : length ws ≤ 5 + n → Scaled (refuse 5 4)
-    scaler_short s = block ∙ block_short 4 n 5 scaler_values scaler_footer ws (omega arith) (omega arith)
 
     module _ (fits : (i : ℕ) → get_or ws i 0 < 2 ^ 32) (inside : 5 + n < length ws) where
       abbrev scalers : List ℕ

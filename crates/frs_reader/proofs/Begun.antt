@@ -1,47 +1,31 @@
 -- The parts before the modules together: refusal 1, the stamp, the scaler, the pattern unit. Over plain values.
 -- Assumes nothing.
-use Prim.Native.Nat.{ℕ, ◌+◌, ◌≤◌, ◌<◌}
+use Prim.Native.Nat.{ℕ, ◌+◌, ◌≤◌}
 use native.Mathlib.Omega.{arith}
-use mathlib.Core.Path.{◌≡◌, refl, ap, sym, ◌∙◌}
-use mathlib.Core.Bool.{Bool, true, false}
+use mathlib.Core.Path.{◌≡◌, ap, sym, ◌∙◌}
+use mathlib.Core.Bool.{true}
 use mathlib.Core.List.{List, [], ◌∷◌, ◌++◌, append_assoc}
-use lib.Dec.{leb}
 use lib.ListN.{length, drop, length-append}
-use borrow.Author.Tests.{lt-leb, leb-true}
-use Rattle.std.specs.Prelude.{Result, Ok, Err}
+use Rattle.std.specs.Prelude.{Ok, Err}
 use Rattle.event.specs.declared.Part.{Part}
-use Rattle.event.specs.declared.refusal.Refusal.{Refusal}
 use Rattle.event.specs.declared.Row.{Row}
-use Rattle.event.specs.Refusal.{Answer, PartAnswer, refusal}
-use Rattle.event.specs.Parser.{refuse, ended, optionally, many, each, if_any}
+use Rattle.event.specs.Refusal.{Answer, PartAnswer}
+use Rattle.event.specs.Parser.{ended, optionally, many, each, if_any}
 use Rattle.event.specs.Words.{between}
 use Rattle.event.specs.Rows.{store_row}
-use Rattle.event.specs.Scanning.{store_rows, RefusedAs, Scanned, PartOf}
+use Rattle.event.specs.Scanning.{store_rows, Scanned, PartOf}
 use Rattle.event.proofs.Elements.{is_between}
-use Rattle.event.proofs.Leads.{leads_part, store_append, scanned_refuse}
+use Rattle.event.proofs.Leads.{leads_part, store_append}
 use Rattle.frs_layout.specs.Layout.{stamp_row, scaler_rows, pattern_rows, module_rows, rows, geos, smallest_event, largest_event}
-use Rattle.frs_layout.specs.Reading.{stamp, scaler, pattern_unit, at_pattern, one_module, event_parser}
+use Rattle.frs_layout.specs.Reading.{scaler, pattern_unit, at_pattern, one_module, event_parser}
 use Rattle.frs_reader.specs.Beginning.{stamp_at, Stamped, Begins}
 
 module _ (ws : List ℕ) where
-  pub wrong_size : {before after : List ℕ} {r : PartAnswer} → (smallest_event ≤ length ws → largest_event < length ws) → r ≡ Err (refusal 1 0) → Begins ws before after r
-  wrong_size h q = rw q (record { begun = record { number = 1; place = 0; refused = go (leb smallest_event (length ws)) refl; named = refl } })
-    where
-      go : (b : Bool) → leb smallest_event (length ws) ≡ b → event_parser (length ws) 0 ws ≡ refuse 1 0
-      go true e = rw (e, lt-leb (length ws) largest_event (h (leb-true smallest_event (length ws) e)))
-      go false e = rw e
-
   module _ (long : smallest_event ≤ length ws) (short : length ws ≤ largest_event) where
     sized : between smallest_event largest_event (length ws) ≡ true
     sized = is_between smallest_event largest_event (length ws) long short
 
-    pub stamp_refused : {before after : List ℕ} {r : Refusal} → Stamped ws (Err r) → Begins ws before after (Err r)
-    stamp_refused s = let t = s.stamp in record { begun = record { number = t.number; place = t.place; refused = rw (sized, t.refused); named = t.named } }
-
     module _ {first : Row} (s : Stamped ws (Ok first)) where
-      pub scaler_refused : {before b₁ b₂ after : List ℕ} {r : Refusal} → PartOf scaler_rows (scaler 4 (drop 4 ws)) ws 1 b₁ b₂ (Err r) → Begins ws before after (Err r)
-      scaler_refused c = let t = c.part in record { begun = record { number = t.number; place = t.place; refused = rw (sized, s.stamp.0, t.refused); named = t.named } }
-
       module _ {b₁ b₂ b₃ : List ℕ} {scaled : Part} {r : PartAnswer} (c : PartOf scaler_rows (scaler 4 (drop 4 ws)) ws 1 b₁ b₂ (Ok scaled))
           (d : PartOf (if_any pattern_rows) (optionally at_pattern pattern_unit scaled.next (drop scaled.next ws)) ws scaled.count b₂ b₃ r) where
         pub begins : (before : List ℕ) → b₁ ≡ store_row before 0 first → Begins ws before b₃ r
@@ -70,12 +54,6 @@ module _ (ws : List ℕ) where
                 }
 
 -- from the parts before the modules to the event
-pub head_refused : {ws before b : List ℕ} {r : Refusal} → Begins ws before b (Err r) → Scanned rows (event_parser (length ws) 0 ws) 0 before (Err r) b
-head_refused {ws} {before} {b} {r} s = go s.begun
-  where
-    go : RefusedAs (event_parser (length ws) 0 ws) r → Scanned rows (event_parser (length ws) 0 ws) 0 before (Err r) b
-    go t = rw t.named (scanned_refuse rows {n = t.number} {p = t.place} 0 before b t.refused)
-
 module _ {ws before b : List ℕ} {p : Part} (s : Begins ws before b (Ok p)) where
   pub modules_there : (p.next ≤ length ws) × (p.count ≤ p.next)
   modules_there = (s.begun.inside, s.begun.few)

@@ -1,24 +1,24 @@
 -- The pattern unit, where there is one. Over plain values.
 -- Assumes nothing.
-use Prim.Native.Nat.{ℕ, suc, ◌+◌, ◌-◌, ◌/◌, ◌%◌, ◌^◌, ◌≤◌, ◌<◌}
+use Prim.Native.Nat.{ℕ, suc, ◌+◌, ◌%◌, ◌^◌, ◌≤◌, ◌<◌}
 use native.Mathlib.Nat.{le_refl}
 use native.Mathlib.Omega.{arith}
 use mathlib.Core.Path.{◌≡◌, refl, ◌∙◌}
-use mathlib.Core.Bool.{true, false}
+use mathlib.Core.Bool.{true}
 use mathlib.Core.List.{List, [], ◌∷◌}
-use mathlib.Core.Option.{Option, some, none}
+use mathlib.Core.Option.{Option, some}
 use lib.Dec.{eqb}
 use lib.ListN.{length, get_or, drop}
-use lib.Seq.{slice, slice_empty}
+use lib.Seq.{slice}
 use borrow.Author.Tests.{eq-eqb, ne_eqb}
 use Rattle.event.specs.declared.Row.{Row}
 use Rattle.event.specs.Parser.{Result, ok, refuse, then, give, filled, within, optionally, if_any}
 use Rattle.event.specs.Scanning.{PartOf}
 use Rattle.event.specs.Words.{halves}
 use Rattle.event.specs.Rows.{store_row}
-use Rattle.event.proofs.Loops.{to_the_end, within_slice, within_short}
+use Rattle.event.proofs.Loops.{to_the_end, within_slice}
 use Rattle.event.proofs.Turns.{at_word, three_words}
-use Rattle.frs_layout.specs.Event.{PatternUnit, pattern_geo, pattern_header, register_identifier, multiplicity_identifier, pattern_end}
+use Rattle.frs_layout.specs.Event.{PatternUnit, pattern_header, register_identifier, multiplicity_identifier, pattern_end}
 use Rattle.frs_layout.specs.Layout.{pattern_row, pattern_rows}
 use Rattle.frs_layout.specs.Reading.{pattern_body, pattern_unit, at_pattern}
 use Rattle.event.specs.Refusal.{PartAnswer, refusal, part}
@@ -37,14 +37,6 @@ module _ (ws : List ℕ) (at : ℕ) where
   PatternPart = PartOf (if_any pattern_rows) (optionally at_pattern pattern_unit at (drop at ws)) ws
 
   -- none
-  absent : {k : ℕ} {b : List ℕ} → at ≤ length ws → k ≤ at → Looked (ok none at (drop at ws)) → PatternPart k b b (Ok (part at k))
-  absent {k} i f e = record { part = record { value = none; parsed = e; inside = i; few = f; counted = let z : k ≡ k + 0 = omega arith in z; stored = refl } }
-
-  pub pattern_end_lem : {k : ℕ} {b : List ℕ} → at ≤ length ws → length ws ≤ at → k ≤ at → PatternPart k b b (Ok (part at k))
-  pattern_end_lem h l f =
-      let e : drop at ws ≡ [] = to_the_end at ws ∙ (let z : at ≡ length ws = omega arith in rw z (slice_empty (length ws) ws)) in
-      absent h f (rw e)
-
   module _ (below : at < length ws) where
     abbrev header : ℕ
     header = get_or ws at 0
@@ -52,18 +44,9 @@ module _ (ws : List ℕ) (at : ℕ) where
     from_header : drop at ws ≡ header ∷ slice (at + 1) (length ws) ws
     from_header = to_the_end at ws ∙ at_word ws at (length ws) below (le_refl (length ws)) ∙ (let z : suc at ≡ at + 1 = omega arith in rw z)
 
-    pub pattern_other : {k : ℕ} {b : List ℕ} → (header / 2 ^ 27 ≡ pattern_geo → ⊥) → k ≤ at → PatternPart k b b (Ok (part at k))
-    pattern_other z f = absent (omega arith) f (rw from_header (rw (ne_eqb (header / 2 ^ 27) pattern_geo z)))
-
-    pub pattern_header_lem : header / 2 ^ 27 ≡ pattern_geo → (header ≡ pattern_header → ⊥) → Looked (refuse 6 at)
-    pattern_header_lem g z = rw from_header (rw (g, ne_eqb header pattern_header z))
-
     module _ (h : header ≡ pattern_header) where
       begun : {x : Result ℕ PatternUnit} → within 5 at 3 pattern_body (at + 1) (slice (at + 1) (length ws) ws) ≡ x → Looked (then (λ p. give (some p)) x)
       begun e = let z : suc at ≡ at + 1 = omega arith in rw from_header (rw (h, z, e))
-
-      pub pattern_short : length ws - at < 4 → Looked (refuse 5 at)
-      pattern_short s = begun (within_short 5 at 3 pattern_body (at + 1) (length ws) ws (le_refl (length ws)) (omega arith) (omega arith))
 
       module _ (inside : at + 4 ≤ length ws) where
         abbrev register : ℕ

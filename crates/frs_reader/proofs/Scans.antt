@@ -3,11 +3,10 @@
 use Prim.Native.Nat.{ℕ, ◌+◌, ◌*◌, ◌/◌, ◌%◌, ◌^◌, ◌≤◌, ◌<◌}
 use native.Mathlib.Nat.{le_refl}
 use native.Mathlib.Omega.{arith}
-use mathlib.Core.Path.{◌≡◌, refl, ap, sym, ◌∙◌}
+use mathlib.Core.Path.{◌≡◌, ap, sym, ◌∙◌}
 use mathlib.Core.List.{List, [], ◌∷◌, ◌++◌}
 use lib.Dec.{leb→le}
 use lib.ListN.{length, get_or, drop}
-use lib.Seq.{slice}
 use Rattle.std.specs.Prelude as std
 use Rattle.std.specs.Prelude.{Ok, Err}
 use Rattle.std.proofs.lemmas.List.{drop_more}
@@ -15,7 +14,7 @@ use Rattle.event.specs.declared.Part.{Part}
 use Rattle.event.specs.declared.refusal.Refusal.{Refusal}
 use Rattle.event.specs.Parser.{ended, many, each}
 use Rattle.event.specs.Channels.{insert, Blocked}
-use Rattle.event.specs.Scanning.{store_rows, RefusedAs, Whole, Scanned}
+use Rattle.event.specs.Scanning.{RefusedAs, Whole, Scanned}
 use Rattle.event.proofs.ChannelLaws.{blocked_none, blocked_more}
 use Rattle.event.proofs.Ends.{placed}
 use Rattle.event.proofs.Loops.{to_the_end}

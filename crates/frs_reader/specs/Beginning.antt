@@ -1,6 +1,7 @@
 -- What stands before the modules, as the code reads it (the contracts of private functions).
 -- Assumes nothing.
-use Rattle.std.specs.Prelude.{ℕ, ◌%◌, ◌^◌, ◌≡◌, List, [], length, get_or, drop, Result, Ok, Err}
+use Rattle.std.specs.Prelude.{ℕ, ◌%◌, ◌^◌, ◌≤◌, ◌≡◌, List, [], length, get_or, drop, Result, Ok, Err}
+use Rattle.event.specs.declared.Part.{Part}
 use Rattle.event.specs.declared.refusal.Refusal.{Refusal}
 use Rattle.event.specs.declared.Row.{Row}
 use Rattle.event.specs.Parser.{ok, ended, many, each}
@@ -9,6 +10,10 @@ use Rattle.event.specs.Scanning.{RefusedAs, reading, BeginsBy}
 use Rattle.frs_layout.specs.Event.{Stamp}
 use Rattle.frs_layout.specs.Layout.{stamp_row, module_rows, rows, geos}
 use Rattle.frs_layout.specs.Reading.{stamp, one_module, event_parser}
+
+-- a part that ends within the words, with no more rows than words
+abbrev pub Within : List ℕ → Part → Type 0
+Within ws p = (p.next ≤ length ws) × (p.count ≤ p.next)
 
 abbrev pub stamp_at : List ℕ → Stamp
 stamp_at ws = record { word1 = get_or ws 1 0 % 2 ^ 16; word2 = get_or ws 2 0 % 2 ^ 16; word3 = get_or ws 3 0 % 2 ^ 16 }

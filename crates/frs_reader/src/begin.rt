@@ -4,7 +4,7 @@ ghost use Rattle.event.specs.Parser.{optionally, if_any};
 ghost use Rattle.event.specs.Scanning.{store_rows, PartOf};
 ghost use Rattle.frs_layout.specs.Layout.{scaler_rows_from, scaler_rows, pattern_rows};
 ghost use Rattle.frs_layout.specs.Reading.{scaler, pattern_unit, at_pattern};
-ghost use Rattle.frs_reader.specs.Beginning.{Stamped, Begins};
+ghost use Rattle.frs_reader.specs.Beginning.{Within, Stamped, Begins};
 
 use crate::longword::{data_under, geo_of, word};
 use event::kind::Kind;
@@ -80,7 +80,7 @@ fn scaler(words: &[u32], rows: &mut [u32]) -> Result<Part, Refusal>
 
 // The pattern unit, where the longword after the scaler has GEO 5.
 fn pattern_unit(words: &[u32], scaled: Part, rows: &mut [u32]) -> Result<Part, Refusal>
-    requires { (scaled.next ≤ length words.now) × (scaled.count ≤ scaled.next) }
+    requires { Within words.now scaled }
     ensures { PartOf (if_any pattern_rows) (optionally at_pattern pattern_unit scaled.next (drop scaled.next words.now)) words.now scaled.count rows.old rows.new result }
 {
     let at = scaled.next;

@@ -48,10 +48,11 @@ pub(crate) fn data_under(upper: u32, words: &[u32], at: usize) -> Result<u32, Re
 
 // The footer of the module with this GEO: flag 4 over bits 23-16 zero.
 pub(crate) fn check_footer(geo: u32, w: u32, place: usize) -> Result<(), Refusal>
-    requires { geo < 32 }
     ensures { result ≡ verdict (footer_fault geo w) place }
 {
-    if w / 0x0001_0000 != geo * 0x0800 + 0x0400 {
+    let flag = flag_of(w);
+    let zeros = w / 0x0001_0000 % 256;
+    if geo_of(w) != geo || flag != 4 || zeros != 0 {
         return refuse(Fault::Inner, place);
     }
     Ok(())

@@ -2,6 +2,7 @@
 ghost use Rattle.std.specs.Prelude.{◌/◌, ◌<◌, ◌≤◌, ◌≡◌, map, length};
 ghost use Rattle.event.specs.Rows.{store_row};
 ghost use Rattle.event.specs.Scanning.{store_rows};
+ghost use Rattle.frs_reader.specs.Beginning.{Within};
 ghost use Rattle.frs_reader.specs.Modules.{opened_of, row_of, ValuesJudged, ReadsModule};
 
 use crate::longword::{channel_of, check_footer, check_header, check_value, flag_of, geo_of, word};
@@ -89,8 +90,13 @@ fn store_value(rows: &mut [u32], at: usize, geo: u32, w: u32)
 }
 
 // The module at a place, after the rows counted. Its data longwords are judged first, and their rows stored together, behind its footer's test.
-pub(crate) fn module(words: &[u32], from: Part, seen: u32, rows: &mut [u32]) -> Result<Part, Refusal>
-    requires { (from.next < length words.now) × (from.count ≤ from.next) }
+pub(crate) fn module(
+    words: &[u32],
+    from: Part,
+    seen: u32,
+    rows: &mut [u32],
+) -> Result<Part, Refusal>
+    requires { Within words.now from × (from.next < length words.now) }
     ensures { ReadsModule seen words.now from rows.old rows.new result }
 {
     let opened = open_module(words, from.next, seen)?;

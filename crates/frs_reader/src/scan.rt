@@ -4,6 +4,7 @@ ghost use Rattle.event.specs.Parser.{ended, many, each};
 ghost use Rattle.event.specs.Scanning.{Scanned};
 ghost use Rattle.frs_layout.specs.Layout.{module_rows, rows as rows_of, geos};
 ghost use Rattle.frs_layout.specs.Reading.{one_module, event_parser};
+ghost use Rattle.frs_reader.specs.Beginning.{Within};
 
 use crate::begin::begin;
 use crate::longword::{geo_of, word};
@@ -14,7 +15,7 @@ use event::refusal::Refusal;
 
 // Reads modules up to the end, or to the first longword that breaks a rule. (A module's length is known only once it is read: so a `while`.)
 fn modules(words: &[u32], begun: Part, rows: &mut [u32]) -> Result<usize, Refusal>
-    requires { (begun.next ≤ length words.now) × (begun.count ≤ begun.next) }
+    requires { Within words.now begun }
     ensures { Scanned (each module_rows) (many one_module geos ended [] begun.next (drop begun.next words.now)) begun.count rows.old result rows.new }
 {
     let mut read = begun;

@@ -26,7 +26,11 @@ pub(crate) fn check_block(row: Row, place: usize) -> Result<(), Refusal>
     if row.kind != Kind::ScalerBlock as u32 {
         return refuse(Fault::Kind, place);
     }
-    if row.unit != frs_format::SCALER_GEO || row.channel < 1 || frs_format::LARGEST_COUNT < row.channel || row.datum != 0 {
+    if row.unit != frs_format::SCALER_GEO
+        || row.channel < 1
+        || frs_format::LARGEST_COUNT < row.channel
+        || row.datum != 0
+    {
         return refuse(Fault::Field, place);
     }
     Ok(())
@@ -70,7 +74,10 @@ pub(crate) fn check_header(seen: u32, row: Row, place: usize) -> Result<(), Refu
     } else if row.channel < 1 || frs_format::LARGEST_COUNT < row.channel || 0xffff < row.datum {
         return refuse(Fault::Field, place);
     }
-    if 31 < row.unit || row.unit == frs_format::PATTERN_GEO || row.unit == frs_format::SCALER_GEO || contains(seen, row.unit) {
+    if 31 < row.unit || row.unit == frs_format::PATTERN_GEO || row.unit == frs_format::SCALER_GEO {
+        return refuse(Fault::Field, place);
+    }
+    if contains(seen, row.unit) {
         return refuse(Fault::Field, place);
     }
     Ok(())
@@ -83,7 +90,10 @@ pub(crate) fn check_value(geo: u32, seen: u32, row: Row, place: usize) -> Result
     if row.kind != Kind::Value as u32 {
         return refuse(Fault::Kind, place);
     }
-    if row.unit != geo || 31 < row.channel || frs_format::DATUM_END <= row.datum || contains(seen, row.channel) {
+    if row.unit != geo || 31 < row.channel || frs_format::DATUM_END <= row.datum {
+        return refuse(Fault::Field, place);
+    }
+    if contains(seen, row.channel) {
         return refuse(Fault::Field, place);
     }
     Ok(())

@@ -16,7 +16,13 @@ use event::refusal::Refusal;
 use event::rows::row_at;
 
 // The n values of the module with this GEO, from row `first` on, as longwords after its header.
-fn write_values(rows: &[u32], first: usize, geo: u32, n: u32, words: &mut [u32]) -> Result<Part, Refusal>
+fn write_values(
+    rows: &[u32],
+    first: usize,
+    geo: u32,
+    n: u32,
+    words: &mut [u32],
+) -> Result<Part, Refusal>
     requires { (1 ≤ first) × (first ≤ length (rows_in rows.now)) × (geo < 2 ^ 5) × (n ≤ 32) }
     ensures { Writes 32 (each (value_words geo)) (times (value geo) channels n [] first (drop first (rows_in rows.now))) (rows_in rows.now) 1 words.old result words.new }
 {
@@ -25,7 +31,11 @@ fn write_values(rows: &[u32], first: usize, geo: u32, n: u32, words: &mut [u32])
     for k in 0..count {
         let row = row_at(rows, first + k);
         check_value(geo, seen, row, first + k)?;
-        store(words, 1 + k, longword(geo, 0, row.channel * 0x0001_0000 + row.datum));
+        store(
+            words,
+            1 + k,
+            longword(geo, 0, row.channel * 0x0001_0000 + row.datum),
+        );
         seen = with_channel(seen, row.channel);
     }
     Ok(Part {
@@ -35,7 +45,12 @@ fn write_values(rows: &[u32], first: usize, geo: u32, n: u32, words: &mut [u32])
 }
 
 // The module that begins at row `at`, at the front of the words. The set has the GEOs before it.
-pub(crate) fn write_module(rows: &[u32], at: usize, seen: u32, words: &mut [u32]) -> Result<Part, Refusal>
+pub(crate) fn write_module(
+    rows: &[u32],
+    at: usize,
+    seen: u32,
+    words: &mut [u32],
+) -> Result<Part, Refusal>
     requires { at ≤ length (rows_in rows.now) }
     ensures { WritesModule seen (rows_in rows.now) at words.old result words.new }
 {

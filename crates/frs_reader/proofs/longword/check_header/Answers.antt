@@ -8,7 +8,7 @@ use Rattle.frs_reader.proofs.longword.check_header.Goals as goal
 
 pub returns-then-not-is_header : goal.returns-then-not-is_header
 returns-then-not-is_header c = elim c.then-not-is_header.branch [
-  then-not-is_header-via-then-not-is_header w ↦ rw (← no_header c.args.seen c.args.w (denied _ c.is_header.ensures (ap not w.if-not-is_header.true))) c.refuse.ensures
+  | then-not-is_header-via-then-not-is_header w ↦ rw (← no_header c.args.seen c.args.w (denied _ c.is_header.ensures (ap not w.if-not-is_header.true))) c.refuse.ensures
   | then-not-is_header-via-else-not-is_header+then-geo-eq-PATTERN_GEO w ↦ rw (← geo_5 c.args.seen c.args.w (granted _ c.is_header.ensures (ap not w.if-not-is_header.false)) (sym c.geo_of-geo.ensures ∙ w.if-geo-eq-PATTERN_GEO.true)) c.refuse.ensures
   | then-not-is_header-via-else-not-is_header+else-geo-eq-PATTERN_GEO+then-geo-eq-SCALER_GEO w ↦ rw (← geo_6 c.args.seen c.args.w (granted _ c.is_header.ensures (ap not w.if-not-is_header.false)) (sym c.geo_of-geo.ensures ∙ w.if-geo-eq-SCALER_GEO.true)) c.refuse.ensures
 ]

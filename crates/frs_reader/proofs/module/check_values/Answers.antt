@@ -1,5 +1,4 @@
 -- `module::check_values` meets its contract. Assumes nothing.
-use native.Mathlib.Omega.{arith}
 use Rattle.frs_reader.proofs.Values.{values_refused, values_next}
 use Rattle.std.proofs.lemmas.Result.{err_from_is_err_and}
 use Rattle.frs_reader.proofs.module.check_values.Goals as goal
