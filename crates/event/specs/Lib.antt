@@ -1,4 +1,5 @@
 pub mod Refusal
+pub mod Kind
 pub mod Outcome
 pub mod Parser
 pub mod Words

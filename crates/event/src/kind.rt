@@ -1,5 +1,6 @@
 // The kinds of row: those of dialect S from 1 on, those of dialect F from 16 on, those of dialect R from 32 on. (A row of a lent buffer may have any number as its
 // kind, so that a field of a row is no `Kind`.)
+ghost use Rattle.std.specs.Prelude.{◌≡◌};
 
 #[derive(Clone, Copy, Debug, PartialEq, Eq)]
 pub enum Kind {
@@ -27,4 +28,14 @@ pub enum Kind {
     RegionScaler = 34,
     VdcModule = 35,
     VdcDatum = 36,
+}
+
+impl Kind {
+    ghost use Rattle.event.specs.Kind.{number};
+
+    pub fn number(self) -> u32
+        ensures { result ≡ number self }
+    {
+        self as u32
+    }
 }

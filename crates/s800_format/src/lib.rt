@@ -6,9 +6,9 @@ pub mod tag;
 ghost use Rattle.std.specs.Prelude.{◌≡◌};
 ghost use Rattle.s800_layout.specs.Event.{trigger_time, flight_time, pair_energy, energy16, adc_energy};
 ghost use Rattle.s800_layout.specs.Layout.{pad};
-ghost use Rattle.s800_format.specs.Format.{times_of, energies_of, opaque_tag};
+ghost use Rattle.s800_format.specs.Format.{times_of, energies_of};
 
-use event::kind;
+use event::kind::Kind;
 
 // An event has from 14 to 4,096 words (document 01, 'Dialect S').
 pub const SMALLEST_EVENT: usize = 14;
@@ -26,9 +26,9 @@ pub const HITS_ID: u32 = 2;
 
 // The channel words of a packet: the kind of their rows, the row channel of channel 0, whether the number below the channel has
 // 13 bits and not 12, and the channels not allowed, as a set of bits.
-#[derive(Clone, Copy)]
+#[derive(Clone, Copy, Debug, PartialEq, Eq)]
 pub struct Format {
-    pub kind: u32,
+    pub kind: Kind,
     pub base: u32,
     pub wide: bool,
     pub barred: u32,
@@ -39,7 +39,7 @@ pub fn trigger_times() -> Format
     ensures { result ≡ times_of trigger_time }
 {
     Format {
-        kind: kind::TIME,
+        kind: Kind::Time,
         base: 0,
         wide: false,
         barred: 0xf0ff,
@@ -51,7 +51,7 @@ pub fn flight_times() -> Format
     ensures { result ≡ times_of flight_time }
 {
     Format {
-        kind: kind::TIME,
+        kind: Kind::Time,
         base: 0,
         wide: false,
         barred: 0x0f0f,
@@ -63,7 +63,7 @@ pub fn energies(base: u32) -> Format
     ensures { result ≡ energies_of base energy16 }
 {
     Format {
-        kind: kind::ENERGY,
+        kind: Kind::Energy,
         base,
         wide: false,
         barred: 0,
@@ -75,7 +75,7 @@ pub fn adc_energies(base: u32) -> Format
     ensures { result ≡ energies_of base adc_energy }
 {
     Format {
-        kind: kind::ENERGY,
+        kind: Kind::Energy,
         base,
         wide: true,
         barred: 0xff00,
@@ -87,25 +87,10 @@ pub fn pair_energies() -> Format
     ensures { result ≡ energies_of 0 pair_energy }
 {
     Format {
-        kind: kind::ENERGY,
+        kind: Kind::Energy,
         base: 0,
         wide: false,
         barred: 0xffc0,
-    }
-}
-
-// The tags of packets with opaque words.
-pub fn is_opaque(tag: u32) -> bool
-    ensures { result ≡ opaque_tag tag }
-{
-    match tag {
-        tag::FOCAL_PLANE_TIME
-        | tag::INTERMEDIATE_CRDC
-        | tag::TARGET_PIN
-        | tag::INTERMEDIATE_TRACK
-        | tag::INTERMEDIATE_PPAC
-        | tag::OBJECT_SCINTILLATOR => true,
-        _ => false,
     }
 }
 

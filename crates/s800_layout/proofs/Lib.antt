@@ -10,7 +10,6 @@ pub mod Edges
 pub mod EdgesOfWriting
 pub mod GroupEdges
 pub mod Refusals
-pub mod NoRoom
 pub mod WritingRefusals
 pub mod Rooms
 pub mod RowCount
