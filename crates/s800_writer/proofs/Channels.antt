@@ -8,7 +8,6 @@ use mathlib.Core.List.{List, [], ◌∷◌, ◌++◌}
 use lib.Dec.{eqb, ltb, leb}
 use lib.ListN.{length, get_or, drop}
 use borrow.Author.Tests.{ltb-true, leb-true, ne_eqb}
-use Rattle.event.specs.declared.Part.TheVariants.{Refused}
 use Rattle.event.specs.declared.Row.{Row}
 use Rattle.event.specs.Channels.{present, insert, Blocked}
 use Rattle.event.specs.Parser.{ok, each}
@@ -16,7 +15,7 @@ use Rattle.event.specs.Words.{store_word}
 use Rattle.event.specs.Scanning.{Writes}
 use Rattle.event.specs.Writing.{of_kind, no_row}
 use Rattle.event.proofs.ChannelLaws.{blocked_more}
-use Rattle.event.proofs.RowJudged.{row_taken, row_refused}
+use Rattle.event.proofs.RowJudged.{row_taken}
 use Rattle.event.proofs.Turns.{up_to_stop}
 use Rattle.event.proofs.WritingTurns.{WritesOn, run_refused, run_taken}
 use Rattle.s800_layout.specs.Event.{Datum}
@@ -27,6 +26,10 @@ use Rattle.s800_format.specs.declared.Format.{Format}
 use Rattle.s800_format.specs.Format.{bits_of, format_of}
 use Rattle.s800_writer.specs.Rows.{datum_fault, datum_words}
 use Rattle.s800_writer.proofs.Datum.{datum_fault_lem}
+use Rattle.std.specs.Prelude.{Err}
+use Rattle.event.specs.declared.refusal.Refusal.{Refusal}
+use Rattle.event.proofs.Answers.{Failed}
+use Rattle.s800_writer.proofs.Failures.{row_failed}
 
 -- what a row without a fault has
 pub record Sound (m : Format) (r : Row) : Type 0 where
@@ -59,9 +62,9 @@ module _ (m : Format) {set : ℕ} {rs : List Row} {i₀ k₀ i k : ℕ} {b₀ b 
   none : of_kind m.kind no_row ≡ false
   none = ne_eqb m.kind 0 (λ z. omega arith)
 
-  pub channels_stop : {n : ℕ} (after : List ℕ) → n ≡ datum_fault m set r → (n ≡ 0 → ⊥) → Writes 16 (each (datum_words m)) (channel_rows m.kind m.base (format_of m) i₀ (drop i₀ rs)) rs k₀ b₀ (Refused n i) after
-  channels_stop after f z = run_refused 16 at_packet h (codes_datum m.kind m.base (format_of m)) on refl going after
-      (row_refused (of_kind m.kind) (datum_of m.base) (datum_row m.kind m.base) (datum_checks 22 22 (format_of m) h.state) none (λ a. (tt, (tt, (tt, tt)))) rs i e (f ∙ sym (datum_fault_lem m h.holds r)) z)
+  pub channels_stop : {refused : Refusal} (after : List ℕ) → Failed (datum_fault m set r) i refused → Writes 16 (each (datum_words m)) (channel_rows m.kind m.base (format_of m) i₀ (drop i₀ rs)) rs k₀ b₀ (Err refused) after
+  channels_stop after t = run_refused 16 at_packet h (codes_datum m.kind m.base (format_of m)) on refl going after
+      (row_failed (of_kind m.kind) (datum_of m.base) (datum_row m.kind m.base) (datum_checks 22 22 (format_of m) h.state) none (λ a. (tt, (tt, (tt, tt)))) rs i e (datum_fault_lem m h.holds r) t)
 
   module _ (f : 0 ≡ datum_fault m set r) where
     taken : (i < length rs) × (datum m.kind m.base (format_of m) h.state i (drop i rs) ≡ ok (datum_of m.base r) (i + 1) (drop (i + 1) rs))

@@ -8,18 +8,22 @@ use mathlib.Core.List.{List}
 use lib.Dec.{eqb, ltb, leb}
 use lib.ListN.{get_or, drop}
 use borrow.Author.Tests.{eq-eqb, ne_eqb, eqb-true, leb-true, leb-false, ltb-true, ltb-false}
-use Rattle.event.specs.declared.Part.{Part}
-use Rattle.event.specs.declared.Part.TheVariants.{Refused}
 use Rattle.event.specs.declared.Row.{Row}
 use Rattle.event.specs.Scanning.{Writes}
 use Rattle.event.specs.Writing.{is_same_row, no_row}
 use Rattle.event.proofs.Impossible.{impossible}
-use Rattle.event.proofs.RowJudged.{row_taken, row_refused}
+use Rattle.event.proofs.RowJudged.{row_taken}
 use Rattle.event.proofs.WritingTurns.{writes_refused}
 use Rattle.s800_layout.specs.Event.{Opaque, Form, trigger, time_of_flight, scintillator, ion_chamber, crdc, hodoscope, object_pin, vme_adc, opaque, form_of, tag, largest_id}
 use Rattle.s800_layout.specs.Layout.{packet_words, id_checks}
 use Rattle.s800_layout.specs.Writing.{of_tag, header_of, header_row, packet}
 use Rattle.s800_writer.specs.Packets.{id_count, header_fault, WritesPacket}
+use Rattle.event.specs.Refusal.{PartAnswer}
+use Rattle.std.specs.Prelude.{Err}
+use Rattle.event.specs.declared.refusal.Refusal.{Refusal}
+use Rattle.event.specs.Refusal.{PartAnswer}
+use Rattle.event.proofs.Answers.{Failed}
+use Rattle.s800_writer.proofs.Failures.{row_failed, refused_first}
 
 -- a form's tag that is none of the others'
 pub an_opaque : (t : ℕ) → tag (form_of t) ≡ t → ((f : Form) → ((k : Opaque) → f ≡ opaque k → ⊥) → t ≡ tag f → ⊥) → (k : Opaque) × (form_of t ≡ opaque k)
@@ -83,8 +87,9 @@ module _ (r : Row) where
 
 -- a row without a fault: its tag is its form's, and its id one of the form's
 module _ (rs : List Row) (i : ℕ) {r : Row} (e : r ≡ get_or rs i no_row) where
-  pub own_refused : {n : ℕ} {b after : List ℕ} {p : Part} → n ≡ header_fault r → (n ≡ 0 → ⊥) → p ≡ Refused n i → Writes 16 packet_words (packet i (drop i rs)) rs 0 b p after
-  own_refused f z = writes_refused 16 packet_words (rw (row_refused (λ r. of_tag (tag (form_of r.unit)) r) header_of header_row (λ h. id_checks 22 h.form h.id) refl (λ h. (tt, tt)) rs i e f z))
+  pub own_refused : {b after : List ℕ} {refused : Refusal} → Failed (header_fault r) i refused → Writes 16 packet_words (packet i (drop i rs)) rs 0 b (Err refused) after
+  own_refused t =
+      writes_refused 16 packet_words (refused_first _ (row_failed (λ r. of_tag (tag (form_of r.unit)) r) header_of header_row (λ h. id_checks 22 h.form h.id) refl (λ h. (tt, tt)) rs i e refl t)) refl
 
   module _ (f : 0 ≡ header_fault r) where
     pub own_known : (tag (form_of r.unit) ≡ r.unit) × (r.channel ≤ largest_id (form_of r.unit))
@@ -98,5 +103,5 @@ module _ (rs : List Row) (i : ℕ) {r : Row} (e : r ≡ get_or rs i no_row) wher
         go true false p s c q h = absurd (omega arith)
         go false b p s c q h = absurd (omega arith)
 
-    pub own_taken : {b after : List ℕ} {p : Part} → WritesPacket (form_of r.unit) r.channel rs i b p after → Writes 16 packet_words (packet i (drop i rs)) rs 0 b p after
+    pub own_taken : {b after : List ℕ} {p : PartAnswer} → WritesPacket (form_of r.unit) r.channel rs i b p after → Writes 16 packet_words (packet i (drop i rs)) rs 0 b p after
     own_taken s = rw (row_taken (λ r. of_tag (tag (form_of r.unit)) r) header_of header_row (λ h. id_checks 22 h.form h.id) refl (λ h. (tt, tt)) rs i e f).1 s

@@ -1,5 +1,6 @@
 // One packet after the stamp and the event number.
 ghost use Rattle.std.specs.Prelude.{◌≤◌, ◌<◌, ◌≡◌, length, drop};
+ghost use Rattle.event.specs.Refusal.{verdict};
 ghost use Rattle.event.specs.Scanning.{Writes};
 ghost use Rattle.event.specs.Writing.{rows_in};
 ghost use Rattle.s800_layout.specs.Event.{largest_id, form_of, tag as tag_of};
@@ -12,8 +13,10 @@ use crate::channel_packets::{
     write_vme_adc,
 };
 use crate::other_packets::{write_crdc, write_opaque, write_scintillator};
+use event::kind::Kind;
+use event::refusal::{Fault, Refusal, refuse};
 use event::rows::row_at;
-use event::{Part, Row, kind, refusal, refuse_part};
+use event::{Part, Row};
 use s800_format::tag;
 
 // How many ids a packet with tag 0x58x0 may have, by x.
@@ -39,25 +42,31 @@ fn id_count(tag: u32) -> u32
     0
 }
 
-// The refusal that a packet's own row meets, 0 for none.
-fn header_fault(row: Row) -> u32
-    ensures { result ≡ header_fault row }
+// A packet's own row.
+fn check_header(row: Row, place: usize) -> Result<(), Refusal>
+    ensures { result ≡ verdict (header_fault row) place }
 {
-    if row.kind != kind::PACKET {
-        return refusal::KIND;
+    if row.kind != Kind::Packet as u32 {
+        return refuse(Fault::Kind, place);
     }
     let end = id_count(row.unit);
     if end == 0 {
-        return refusal::KIND;
+        return refuse(Fault::Kind, place);
     }
     if (row.channel < end) & (row.datum == 0) {
-        return 0;
+        return Ok(());
     }
-    refusal::FIELD
+    refuse(Fault::Field, place)
 }
 
 // The packet after its own row, which has this tag and this id.
-fn write_content(rows: &[u32], own: usize, tag: u32, id: u32, part: &mut [u16]) -> Part
+fn write_content(
+    rows: &[u32],
+    own: usize,
+    tag: u32,
+    id: u32,
+    part: &mut [u16],
+) -> Result<Part, Refusal>
     requires { (own < length (rows_in rows.now)) × (tag_of (form_of tag) ≡ tag) × (id ≤ largest_id (form_of tag)) }
     ensures { WritesPacket (form_of tag) id (rows_in rows.now) own part.old result part.new }
 {
@@ -75,14 +84,11 @@ fn write_content(rows: &[u32], own: usize, tag: u32, id: u32, part: &mut [u16]) 
 }
 
 // The packet whose own row is row `own`, at the front of `part`.
-pub(crate) fn write_packet(rows: &[u32], own: usize, part: &mut [u16]) -> Part
+pub(crate) fn write_packet(rows: &[u32], own: usize, part: &mut [u16]) -> Result<Part, Refusal>
     requires { own < length (rows_in rows.now) }
     ensures { Writes 16 packet_words (packet own (drop own (rows_in rows.now))) (rows_in rows.now) 0 part.old result part.new }
 {
     let row = row_at(rows, own);
-    let number = header_fault(row);
-    if number != 0 {
-        return refuse_part(number, own);
-    }
+    check_header(row, own)?;
     write_content(rows, own, row.unit, row.channel, part)
 }
