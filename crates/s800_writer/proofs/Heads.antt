@@ -7,7 +7,7 @@ use mathlib.Core.Bool.{Bool, true, false, cond, ◌&&◌}
 use mathlib.Core.List.{List, []}
 use lib.Dec.{eqb}
 use lib.ListN.{get_or, drop}
-use borrow.Author.Tests.{eq-eqb, eqb-true}
+use borrow.Author.Tests.{eq-eqb, ne_eqb, eqb-true, eqb-false}
 use Rattle.event.specs.declared.Row.{Row}
 use Rattle.event.specs.declared.StampOrder.{StampOrder}
 use Rattle.event.specs.declared.StampOrder.TheVariants.{Crossed, Rising}
@@ -31,20 +31,27 @@ use Rattle.event.specs.declared.refusal.Refusal.{Refusal}
 use Rattle.event.proofs.Answers.{Failed}
 use Rattle.s800_writer.proofs.Failures.{row_failed, refused_first}
 
+swapped : (a b : ℕ) → eqb a b ≡ eqb b a
+swapped a b = go (eqb a b) refl
+  where
+    go : (c : Bool) → eqb a b ≡ c → eqb a b ≡ eqb b a
+    go true e = e ∙ sym (eq-eqb b a (sym (eqb-true a b e)))
+    go false e = e ∙ sym (ne_eqb b a (λ q. eqb-false a b e (sym q)))
+
 -- the own row
 module _ (t : ℕ) (r : Row) where
-  pub own_kind : eqb 1 r.kind && eqb t r.unit ≡ false → 21 ≡ own_fault t r
+  pub own_kind : eqb r.kind 1 && eqb r.unit t ≡ false → 21 ≡ own_fault t r
   unfolding own_fault
-  own_kind h = rw h
+  own_kind h = rw (swapped 1 r.kind, swapped t r.unit, h)
 
-  module _ (h : eqb 1 r.kind && eqb t r.unit ≡ true) where
+  module _ (h : eqb r.kind 1 && eqb r.unit t ≡ true) where
     pub own_good : eqb r.channel 0 && eqb r.datum 0 ≡ true → 0 ≡ own_fault t r
     unfolding own_fault
-    own_good g = rw (h, g)
+    own_good g = rw (swapped 1 r.kind, swapped t r.unit, h, g)
 
     pub own_bad : eqb r.channel 0 && eqb r.datum 0 ≡ false → 22 ≡ own_fault t r
     unfolding own_fault
-    own_bad g = rw (h, g)
+    own_bad g = rw (swapped 1 r.kind, swapped t r.unit, h, g)
 
   own_fault_lem : fault_in (row_tests (of_tag t) (λ r. tt) (λ (u : Unit {0}). packet_row t 0) (λ u. []) r) ≡ own_fault t r
   unfolding own_fault

@@ -16,7 +16,8 @@ use event::kind::Kind;
 use event::refusal::Refusal;
 use event::rows::row_at;
 use event::words::store_word;
-use s800_format::{adc_energies, energies, flight_times, tag, trigger_times};
+use s800_format::tag::Tag;
+use s800_format::{adc_energies, energies, flight_times, trigger_times};
 
 // 0x5801: the pattern, then times.
 pub(crate) fn write_trigger(rows: &[u32], own: usize, part: &mut [u16]) -> Result<Part, Refusal>
@@ -26,7 +27,7 @@ pub(crate) fn write_trigger(rows: &[u32], own: usize, part: &mut [u16]) -> Resul
     let pattern = row_at(rows, own + 1);
     check_limits(
         pattern,
-        Kind::TriggerPattern as u32,
+        Kind::TriggerPattern,
         0,
         0,
         s800_format::LARGEST_PATTERN,
@@ -34,7 +35,7 @@ pub(crate) fn write_trigger(rows: &[u32], own: usize, part: &mut [u16]) -> Resul
     )?;
     store_word(part, 2, pattern.datum as usize);
     let times = write_channels(rows, own + 2, trigger_times(), part, 3)?;
-    close(part, 0, tag::TRIGGER, times.count);
+    close(part, 0, Tag::Trigger, times.count);
     Ok(times)
 }
 
@@ -48,7 +49,7 @@ pub(crate) fn write_time_of_flight(
     ensures { WritesPacket time_of_flight 0 (rows_in rows.now) own part.old result part.new }
 {
     let times = write_channels(rows, own + 1, flight_times(), part, 2)?;
-    close(part, 0, tag::TIME_OF_FLIGHT, times.count);
+    close(part, 0, Tag::TimeOfFlight, times.count);
     Ok(times)
 }
 
@@ -58,8 +59,8 @@ pub(crate) fn write_ion_chamber(rows: &[u32], own: usize, part: &mut [u16]) -> R
     ensures { WritesPacket ion_chamber 0 (rows_in rows.now) own part.old result part.new }
 {
     let written = write_channels(rows, own + 1, energies(0), part, 4)?;
-    close(part, 2, tag::ION_CHAMBER_ENERGIES, written.count);
-    close(part, 0, tag::ION_CHAMBER, written.count);
+    close(part, 2, Tag::IonChamberEnergies, written.count);
+    close(part, 0, Tag::IonChamber, written.count);
     Ok(written)
 }
 
@@ -76,7 +77,7 @@ pub(crate) fn write_object_pin(rows: &[u32], own: usize, part: &mut [u16]) -> Re
         2,
         channel_word(format, row.channel, row.datum) as usize,
     );
-    close(part, 0, tag::OBJECT_PIN, 3);
+    close(part, 0, Tag::ObjectPin, 3);
     Ok(Part {
         next: own + 2,
         count: 3,
@@ -96,11 +97,11 @@ pub(crate) fn write_hodoscope(
     store_word(part, 2, id as usize);
     if id == s800_format::HITS_ID {
         let hits = write_hits(rows, own + 1, part)?;
-        close(part, 0, tag::HODOSCOPE, hits.count);
+        close(part, 0, Tag::Hodoscope, hits.count);
         return Ok(hits);
     }
     let written = write_channels(rows, own + 1, energies(16 * id), part, 3)?;
-    close(part, 0, tag::HODOSCOPE, written.count);
+    close(part, 0, Tag::Hodoscope, written.count);
     Ok(written)
 }
 
@@ -110,7 +111,7 @@ fn write_hits(rows: &[u32], at: usize, part: &mut [u16]) -> Result<Part, Refusal
     ensures { Writes 16 register_words (registers at (drop at (rows_in rows.now))) (rows_in rows.now) 3 part.old result part.new }
 {
     let row = row_at(rows, at);
-    check_limits(row, Kind::HodoscopeHits as u32, 65535, 65535, 65535, at)?;
+    check_limits(row, Kind::HodoscopeHits, 65535, 65535, 65535, at)?;
     store_word(part, 3, row.unit as usize);
     store_word(part, 4, row.channel as usize);
     store_word(part, 5, row.datum as usize);
@@ -132,6 +133,6 @@ pub(crate) fn write_vme_adc(
 {
     store_word(part, 2, id as usize);
     let written = write_channels(rows, own + 1, adc_energies(8 * id), part, 3)?;
-    close(part, 0, tag::VME_ADC, written.count);
+    close(part, 0, Tag::VmeAdc, written.count);
     Ok(written)
 }

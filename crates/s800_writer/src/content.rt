@@ -1,5 +1,6 @@
 // Content rows that come in runs, up to the next packet's own row: their words, from word `first` of the packet on.
 ghost use Rattle.std.specs.Prelude.{◌≡◌, [], ◌+◌, ◌<◌, ◌^◌, drop};
+ghost use Rattle.event.specs.Kind.{number};
 ghost use Rattle.event.specs.Parser.{many, several, each};
 ghost use Rattle.event.specs.Words.{word_alone};
 ghost use Rattle.event.specs.Scanning.{store_words, Writes};
@@ -38,13 +39,13 @@ pub(crate) fn write_channels(
     words: &mut [u16],
     first: usize,
 ) -> Result<Part, Refusal>
-    requires { RunAt (rows_in rows.now) from first × (1 < format.kind) }
-    ensures { Writes 16 (each (datum_words format)) (channel_rows format.kind format.base (format_of format) from (drop from (rows_in rows.now))) (rows_in rows.now) first words.old result words.new }
+    requires { RunAt (rows_in rows.now) from first × (1 < number format.kind) }
+    ensures { Writes 16 (each (datum_words format)) (channel_rows (number format.kind) format.base (format_of format) from (drop from (rows_in rows.now))) (rows_in rows.now) first words.old result words.new }
 {
     let mut blocked = format.barred;
     let mut i = from;
     let mut at = first;
-    while before_kind(rows, i, Kind::Packet as u32) {
+    while before_kind(rows, i, Kind::Packet) {
         let row = row_at(rows, i);
         check_channel(format, blocked, row, i)?;
         let channel = row.channel - format.base;
@@ -70,7 +71,7 @@ pub(crate) fn write_pairs(
     let mut blocked = format.barred;
     let mut i = from;
     let mut at = first;
-    while before_kind(rows, i, Kind::Packet as u32) {
+    while before_kind(rows, i, Kind::Packet) {
         let energy = row_at(rows, i);
         check_channel(format, blocked, energy, i)?;
         let time = row_at(rows, i + 1);
@@ -104,9 +105,9 @@ pub(crate) fn write_opaque_words(
 {
     let mut i = from;
     let mut at = first;
-    while before_kind(rows, i, Kind::Packet as u32) {
+    while before_kind(rows, i, Kind::Packet) {
         let row = row_at(rows, i);
-        check_limits(row, Kind::OpaqueWord as u32, 0, 0, 65535, i)?;
+        check_limits(row, Kind::OpaqueWord, 0, 0, 65535, i)?;
         store_word(words, at, row.datum as usize);
         at += 1;
         i += 1;

@@ -30,8 +30,8 @@ pub(crate) fn write_samples(
     let mut at = first;
     loop {
         let head = row_at(rows, i);
-        if let Err(refusal) = check_limits(head, Kind::SampleHead as u32, 511, 63, 0, i) {
-            if before_kind(rows, i, Kind::Anode as u32) {
+        if let Err(refusal) = check_limits(head, Kind::SampleHead, 511, 63, 0, i) {
+            if before_kind(rows, i, Kind::Anode) {
                 return Err(refusal);
             }
             return Ok(Part { next: i, count: at });

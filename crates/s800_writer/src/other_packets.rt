@@ -6,6 +6,7 @@ ghost use Rattle.event.specs.Writing.{rows_in};
 ghost use Rattle.s800_layout.specs.Event.{Opaque, scintillator, crdc, opaque, anode_tag, tag as tag_of};
 ghost use Rattle.s800_layout.specs.Layout.{framed, anode_words};
 ghost use Rattle.s800_layout.specs.Writing.{anode};
+ghost use Rattle.s800_format.specs.Tag.{number};
 ghost use Rattle.s800_writer.specs.Rows.{RunAt};
 ghost use Rattle.s800_writer.specs.Packets.{WritesPacket};
 
@@ -18,7 +19,7 @@ use event::kind::Kind;
 use event::refusal::Refusal;
 use event::rows::row_at;
 use event::words::store_word;
-use s800_format::tag;
+use s800_format::tag::Tag;
 
 // 0x5810: pairs of an energy and a time.
 pub(crate) fn write_scintillator(
@@ -30,7 +31,7 @@ pub(crate) fn write_scintillator(
     ensures { WritesPacket scintillator 0 (rows_in rows.now) own part.old result part.new }
 {
     let pairs = write_pairs(rows, own + 1, part, 2)?;
-    close(part, 0, tag::SCINTILLATOR, pairs.count);
+    close(part, 0, Tag::Scintillator, pairs.count);
     Ok(pairs)
 }
 
@@ -45,13 +46,13 @@ pub(crate) fn write_crdc(
     ensures { WritesPacket crdc id (rows_in rows.now) own part.old result part.new }
 {
     let threshold = row_at(rows, own + 1);
-    check_limits(threshold, Kind::Threshold as u32, 0, 0, 65535, own + 1)?;
+    check_limits(threshold, Kind::Threshold, 0, 0, 65535, own + 1)?;
     store_word(part, 2, id as usize);
     store_word(part, 5, threshold.datum as usize);
     let samples = write_samples(rows, own + 2, part, 6)?;
-    close(part, 3, tag::CRDC_SAMPLES, samples.count);
+    close(part, 3, Tag::CrdcSamples, samples.count);
     let anode = write_anode(rows, samples.next, part, samples.count)?;
-    close(part, 0, tag::CRDC, anode.count);
+    close(part, 0, Tag::Crdc, anode.count);
     Ok(anode)
 }
 
@@ -61,10 +62,10 @@ fn write_anode(rows: &[u32], from: usize, part: &mut [u16], at: usize) -> Result
     ensures { Writes 16 (λ a. framed anode_tag (anode_words a)) (anode from (drop from (rows_in rows.now))) (rows_in rows.now) at part.old result part.new }
 {
     let row = row_at(rows, from);
-    check_limits(row, Kind::Anode as u32, 0, 65535, 65535, from)?;
+    check_limits(row, Kind::Anode, 0, 65535, 65535, from)?;
     store_word(part, at + 2, row.channel as usize);
     store_word(part, at + 3, row.datum as usize);
-    close(part, at, tag::CRDC_ANODE, at + 4);
+    close(part, at, Tag::CrdcAnode, at + 4);
     Ok(Part {
         next: from + 1,
         count: at + 4,
@@ -75,11 +76,11 @@ fn write_anode(rows: &[u32], from: usize, part: &mut [u16], at: usize) -> Result
 pub(crate) fn write_opaque(
     rows: &[u32],
     own: usize,
-    tag: u32,
+    tag: Tag,
     part: &mut [u16],
 ) -> Result<Part, Refusal>
     requires { own < length (rows_in rows.now) }
-    ensures { (k : Opaque) → tag ≡ tag_of (opaque k) → WritesPacket (opaque k) 0 (rows_in rows.now) own part.old result part.new }
+    ensures { (k : Opaque) → number tag ≡ tag_of (opaque k) → WritesPacket (opaque k) 0 (rows_in rows.now) own part.old result part.new }
 {
     let content = write_opaque_words(rows, own + 1, part, 2)?;
     close(part, 0, tag, content.count);

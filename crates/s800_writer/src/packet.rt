@@ -6,6 +6,7 @@ ghost use Rattle.event.specs.Writing.{rows_in};
 ghost use Rattle.s800_layout.specs.Event.{largest_id, form_of, tag as tag_of};
 ghost use Rattle.s800_layout.specs.Layout.{packet_words};
 ghost use Rattle.s800_layout.specs.Writing.{packet};
+ghost use Rattle.s800_format.specs.Tag.{number};
 ghost use Rattle.s800_writer.specs.Packets.{id_count, header_fault, WritesPacket};
 
 use crate::channel_packets::{
@@ -17,13 +18,13 @@ use event::kind::Kind;
 use event::refusal::{Fault, Refusal, refuse};
 use event::rows::row_at;
 use event::{Part, Row};
-use s800_format::tag;
+use s800_format::tag::Tag;
 
 // How many ids a packet with tag 0x58x0 may have, by x.
 const IDS: [u32; 16] = [0, 1, 1, 1, 2, 1, 1, 1, 1, 1, 1, 3, 4, 0, 0, 0];
 
-// How many ids a packet with this tag may have: 1 where it has none (0 stands in its own row), 0 for a tag of no packet. It is looked up, since packets
-// of many tags follow each other in no order that a processor could predict at a branch.
+// How many ids a packet with this tag may have: 1 where it has none (0 stands in its own row), 0 for a tag of no packet. The word is looked up, and not matched
+// as a `Tag`: packets of many tags follow each other in no order that a processor could predict, so the one branch by the tag is that in `write_content`.
 fn id_count(tag: u32) -> u32
     ensures { result ≡ id_count tag }
 {
@@ -33,10 +34,10 @@ fn id_count(tag: u32) -> u32
     if tag % 16 == 0 {
         return IDS[(tag / 16 % 16) as usize];
     }
-    if tag == tag::TRIGGER {
+    if tag == Tag::Trigger as u32 {
         return 1;
     }
-    if tag == tag::TIME_OF_FLIGHT {
+    if tag == Tag::TimeOfFlight as u32 {
         return 1;
     }
     0
@@ -63,22 +64,22 @@ fn check_header(row: Row, place: usize) -> Result<(), Refusal>
 fn write_content(
     rows: &[u32],
     own: usize,
-    tag: u32,
+    tag: Tag,
     id: u32,
     part: &mut [u16],
 ) -> Result<Part, Refusal>
-    requires { (own < length (rows_in rows.now)) × (tag_of (form_of tag) ≡ tag) × (id ≤ largest_id (form_of tag)) }
-    ensures { WritesPacket (form_of tag) id (rows_in rows.now) own part.old result part.new }
+    requires { (own < length (rows_in rows.now)) × (tag_of (form_of (number tag)) ≡ number tag) × (id ≤ largest_id (form_of (number tag))) }
+    ensures { WritesPacket (form_of (number tag)) id (rows_in rows.now) own part.old result part.new }
 {
     match tag {
-        tag::TRIGGER => write_trigger(rows, own, part),
-        tag::TIME_OF_FLIGHT => write_time_of_flight(rows, own, part),
-        tag::SCINTILLATOR => write_scintillator(rows, own, part),
-        tag::ION_CHAMBER => write_ion_chamber(rows, own, part),
-        tag::CRDC => write_crdc(rows, own, id, part),
-        tag::HODOSCOPE => write_hodoscope(rows, own, id, part),
-        tag::OBJECT_PIN => write_object_pin(rows, own, part),
-        tag::VME_ADC => write_vme_adc(rows, own, id, part),
+        Tag::Trigger => write_trigger(rows, own, part),
+        Tag::TimeOfFlight => write_time_of_flight(rows, own, part),
+        Tag::Scintillator => write_scintillator(rows, own, part),
+        Tag::IonChamber => write_ion_chamber(rows, own, part),
+        Tag::Crdc => write_crdc(rows, own, id, part),
+        Tag::Hodoscope => write_hodoscope(rows, own, id, part),
+        Tag::ObjectPin => write_object_pin(rows, own, part),
+        Tag::VmeAdc => write_vme_adc(rows, own, id, part),
         _ => write_opaque(rows, own, tag, part),
     }
 }
@@ -90,5 +91,8 @@ pub(crate) fn write_packet(rows: &[u32], own: usize, part: &mut [u16]) -> Result
 {
     let row = row_at(rows, own);
     check_header(row, own)?;
-    write_content(rows, own, row.unit, row.channel, part)
+    match Tag::of(row.unit) {
+        Some(tag) => write_content(rows, own, tag, row.channel, part),
+        None => unreachable!(),
+    }
 }

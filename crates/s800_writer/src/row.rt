@@ -1,5 +1,6 @@
 // What a row must keep to; the first thing that it does not keep refuses it at its place.
 ghost use Rattle.std.specs.Prelude.{◌≡◌, not, ◌^◌, drop};
+ghost use Rattle.event.specs.Kind.{number};
 ghost use Rattle.event.specs.Refusal.{verdict};
 ghost use Rattle.event.specs.Writing.{rows_in, at_kind};
 ghost use Rattle.s800_layout.specs.Writing.{sample_head_of};
@@ -14,24 +15,24 @@ use event::rows::row_at;
 use s800_format::Format;
 
 // Row `at` is there, and of another kind than this one.
-pub(crate) fn before_kind(rows: &[u32], at: usize, kind: u32) -> bool
-    ensures { result ≡ not (at_kind kind (drop at (rows_in rows.now))) }
+pub(crate) fn before_kind(rows: &[u32], at: usize, kind: Kind) -> bool
+    ensures { result ≡ not (at_kind (number kind) (drop at (rows_in rows.now))) }
 {
-    at < rows.len() / 4 && kind != row_at(rows, at).kind
+    at < rows.len() / 4 && kind.number() != row_at(rows, at).kind
 }
 
 // A row of this kind, of which each field has a largest number.
 pub(crate) fn check_limits(
     row: Row,
-    kind: u32,
+    kind: Kind,
     unit: u32,
     channel: u32,
     datum: u32,
     place: usize,
 ) -> Result<(), Refusal>
-    ensures { result ≡ verdict (limits_fault kind unit channel datum row) place }
+    ensures { result ≡ verdict (limits_fault (number kind) unit channel datum row) place }
 {
-    if row.kind != kind {
+    if row.kind != kind.number() {
         return refuse(Fault::Kind, place);
     }
     if (row.unit <= unit) & (row.channel <= channel) & (row.datum <= datum) {
@@ -56,7 +57,7 @@ pub(crate) fn check_channel(
 ) -> Result<(), Refusal>
     ensures { result ≡ verdict (datum_fault format blocked row) place }
 {
-    if row.kind != format.kind {
+    if row.kind != format.kind.number() {
         return refuse(Fault::Kind, place);
     }
     if row.channel < format.base {

@@ -7,6 +7,7 @@ ghost use Rattle.event.specs.Writing.{rows_in};
 ghost use Rattle.s800_layout.specs.Event.{stamp_tag, number_tag};
 ghost use Rattle.s800_layout.specs.Layout.{framed, stamp_words, number_words, packet_words, words as words_of};
 ghost use Rattle.s800_layout.specs.Writing.{stamp_of, stamp_packet, number_packet, packet, event_rows_up_to};
+ghost use Rattle.s800_format.specs.Tag.{number};
 ghost use Rattle.s800_writer.specs.Rows.{RunAt};
 ghost use Rattle.s800_writer.specs.Packets.{own_fault, chunk_of};
 
@@ -18,13 +19,13 @@ use event::refusal::{Fault, Refusal, refuse};
 use event::rows::row_at;
 use event::words::{part_start, store_word};
 use event::{Part, Row, StampOrder};
-use s800_format::tag;
+use s800_format::tag::Tag;
 
 // The own row of a packet with this tag and no id.
-fn check_own(row: Row, tag: u32, place: usize) -> Result<(), Refusal>
-    ensures { result ≡ verdict (own_fault tag row) place }
+fn check_own(row: Row, tag: Tag, place: usize) -> Result<(), Refusal>
+    ensures { result ≡ verdict (own_fault (number tag) row) place }
 {
-    if (Kind::Packet as u32 == row.kind) & (tag == row.unit) {
+    if (row.kind == Kind::Packet.number()) & (row.unit == tag.number()) {
         if (row.channel == 0) & (row.datum == 0) {
             return Ok(());
         }
@@ -59,11 +60,11 @@ fn store_stamp(part: &mut [u16], row: Row, order: StampOrder)
 fn write_stamp(rows: &[u32], order: StampOrder, part: &mut [u16]) -> Result<Part, Refusal>
     ensures { Writes 16 (λ s. framed stamp_tag (stamp_words s)) (stamp_packet order 0 (rows_in rows.now)) (rows_in rows.now) 0 part.old result part.new }
 {
-    check_own(row_at(rows, 0), tag::TIMESTAMP, 0)?;
+    check_own(row_at(rows, 0), Tag::Timestamp, 0)?;
     let row = row_at(rows, 1);
-    check_limits(row, Kind::Stamp as u32, 0, 0xffff_ffff, 0xffff_ffff, 1)?;
+    check_limits(row, Kind::Stamp, 0, 0xffff_ffff, 0xffff_ffff, 1)?;
     store_stamp(part, row, order);
-    close(part, 0, tag::TIMESTAMP, 6);
+    close(part, 0, Tag::Timestamp, 6);
     Ok(Part { next: 2, count: 6 })
 }
 
@@ -71,13 +72,13 @@ fn write_stamp(rows: &[u32], order: StampOrder, part: &mut [u16]) -> Result<Part
 fn write_number(rows: &[u32], part: &mut [u16]) -> Result<Part, Refusal>
     ensures { Writes 16 (λ k. framed number_tag (number_words k)) (number_packet 2 (drop 2 (rows_in rows.now))) (rows_in rows.now) 0 part.old result part.new }
 {
-    check_own(row_at(rows, 2), tag::EVENT_NUMBER, 2)?;
+    check_own(row_at(rows, 2), Tag::EventNumber, 2)?;
     let row = row_at(rows, 3);
-    check_limits(row, Kind::EventNumber as u32, 0, 65535, 0xffff_ffff, 3)?;
+    check_limits(row, Kind::EventNumber, 0, 65535, 0xffff_ffff, 3)?;
     store_word(part, 2, (row.datum % 65536) as usize);
     store_word(part, 3, (row.datum / 65536) as usize);
     store_word(part, 4, row.channel as usize);
-    close(part, 0, tag::EVENT_NUMBER, 5);
+    close(part, 0, Tag::EventNumber, 5);
     Ok(Part { next: 4, count: 5 })
 }
 
@@ -117,6 +118,6 @@ pub(crate) fn write_event(
     let at = part_start(9, words.len());
     write_number(rows, &mut words[at..])?;
     let packets = write_packets(rows, 4, words, 14)?;
-    close(words, 0, tag::EVENT, packets.count);
+    close(words, 0, Tag::Event, packets.count);
     Ok(packets.count)
 }
