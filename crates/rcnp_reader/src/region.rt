@@ -4,7 +4,7 @@ ghost use Rattle.rcnp_format.specs.Form.{form as layout_form};
 ghost use Rattle.rcnp_reader.specs.Regions.{Headed, Opens};
 
 use crate::Opened;
-use crate::content::{scalers, store_words};
+use crate::content::{Opaque, scalers, store_words};
 use crate::word::word;
 use event::kind::Kind;
 use event::refusal::{Fault, Refusal, refuse};
@@ -58,7 +58,7 @@ fn read_region(words: &[u16], at: usize, form: Form, size: u32, rows: &mut [u32]
             Ok(Opened::Whole(Part { next: end, count }))
         }
         _ => {
-            store_words(words, first, end, rows, count + 1);
+            store_words::<Opaque>(words, first, end, rows, count + 1);
             let count = count + 1 + (end - first);
             Ok(Opened::Whole(Part { next: end, count }))
         }
