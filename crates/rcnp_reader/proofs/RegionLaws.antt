@@ -7,13 +7,16 @@ use mathlib.Core.List.{List, [], ◌∷◌, ◌++◌, map, map-map, append-nil}
 use lib.Dec.{lt→ltb, eqb→eq}
 use lib.ListN.{length, get_or, drop, take, length-map}
 use lib.Seq.{slice, slice_empty, length-slice}
-use Rattle.event.specs.declared.Answer.{Answer}
-use Rattle.event.specs.declared.Answer.TheVariants as answer
+use Rattle.std.specs.Prelude.{Ok, Err}
+use Rattle.event.specs.declared.refusal.Refusal.{Refusal}
+use Rattle.event.specs.declared.Part.{Part}
+use Rattle.event.specs.Refusal.{part}
 use Rattle.event.specs.Parser.{Result, ok, refuse, ended, alone, Passed, All}
 use Rattle.event.specs.Rows.{store_row}
 use Rattle.event.specs.Scanning.{store_rows, Scanned, Whole}
 use Rattle.event.proofs.Ends.{ends_many}
 use Rattle.event.proofs.Impossible.{impossible}
+use Rattle.event.proofs.Leads.{refused_scan}
 use Rattle.event.proofs.Loops.{at_end}
 use Rattle.event.proofs.Turns.{at_word}
 use Rattle.rcnp_layout.specs.Event.{Form, input_register, scaler, vdc, opaque, Content, id_of, form_of}
@@ -21,9 +24,10 @@ use Rattle.rcnp_layout.specs.Layout.{content_words, word_row, vdc_row, content_r
 use Rattle.rcnp_layout.specs.Reading.{scaler_value, vdc_of, content, region}
 use Rattle.rcnp_layout.proofs.RowCount.{in_content}
 use Rattle.rcnp_layout.proofs.Words.{codes_content}
+use Rattle.rcnp_reader.specs.declared.Opened.{Opened}
 use Rattle.rcnp_reader.specs.declared.Opened.TheVariants as opened
 use Rattle.rcnp_reader.specs.declared.Opened.TheVariants.{Chamber}
-use Rattle.rcnp_reader.specs.Regions.{vdc_word_row, Headed, Opens, read_to}
+use Rattle.rcnp_reader.specs.Regions.{vdc_word_row, Headed, Opens}
 use Rattle.rcnp_reader.proofs.Headers.{OfForm, of_form, of_content}
 
 module _ {ws : List ℕ} {i : ℕ} {f : Form} {end : ℕ} (h : OfForm ws i f end) where
@@ -116,13 +120,13 @@ module _ {ws : List ℕ} {i k id size : ℕ} {b b₁ : List ℕ} (h : RowStored 
     form_row = h.own ∙ rw (e, h.headed.in_bits.1)
 
   -- a VDC region, whose words are judged
-  pub opens_chamber : id ≡ 7 → Opens ws i k b b₁ (Chamber (i + 1 + size))
+  pub opens_chamber : id ≡ 7 → Opens ws i k b b₁ (Ok (Chamber (i + 1 + size)))
   opens_chamber e =
       let z : i + 1 + size - (i + 1) ≡ size = omega arith in
       record { opened = (rw (z, ← e) h.headed, omega arith, rw (z, ← e) h.own) }
 
   pub opens_words : {b₂ : List ℕ} → ((j : ℕ) → get_or ws j 0 < 2 ^ 16) → (id ≡ 7 → ⊥) → (id ≡ 6 → ⊥) → b₂ ≡ store_rows b₁ (k + 1) (map word_row (slice (i + 1) (i + 1 + size) ws))
-      → Opens ws i k b b₂ (opened.Whole (i + 1 + size) (k + 1 + (i + 1 + size - (i + 1))))
+      → Opens ws i k b b₂ (Ok (opened.Whole (part (i + 1 + size) (k + 1 + (i + 1 + size - (i + 1))))))
   opens_words fits u v s =
       let f = form_of id in
       let g = h.headed.known in
@@ -139,31 +143,40 @@ module _ {ws : List ℕ} {i k id size : ℕ} {b b₁ : List ℕ} (h : RowStored 
       let n = h.headed.in_bits.1 in
       (rw (← n) even, omega arith)
 
-  pub opens_scalers : {r : Answer} {b₂ : List ℕ} → id ≡ 6
-      → Scanned (content_rows scaler) (content scaler (i + 1) (slice (i + 1) (i + 1 + size) ws)) (k + 1) b₁ r b₂ → Opens ws i k b b₂ (read_to (i + 1 + size) r)
-  opens_scalers {r} {b₂} e s = go r (content scaler (i + 1) (slice (i + 1) end ws)) refl s
-    where
-      end : ℕ
-      end = i + 1 + size
+  module _ (six : id ≡ 6) where
+    abbrev end : ℕ
+    end = i + 1 + size
 
-      here : OfForm ws i scaler end
-      here = form_here scaler e
+    here : OfForm ws i scaler end
+    here = form_here scaler six
 
-      go : (r : Answer) (x : Result ℕ (List ℕ)) → content scaler (i + 1) (slice (i + 1) end ws) ≡ x → Scanned (content_rows scaler) x (k + 1) b₁ r b₂ → Opens ws i k b b₂ (read_to end r)
-      go (answer.Refused n p) (refuse m q) d t =
-          let a = t.answered in
-          let same : ◌≡◌ {A = Result ℕ (List ℕ)} (refuse m q) (refuse n p) = cc in
-          record { opened = content_refused here (d ∙ same) }
-      go (answer.Refused n p) (ok vs j l) d t = let a = t.answered in impossible cc
-      go (answer.Accepted count) (refuse m q) d t = let a = t.answered in impossible cc
-      go (answer.Accepted count) (ok vs j l) d t =
-          let a = t.answered in
-          let n : count ≡ k + 1 + length (content_rows scaler vs) = cc in
-          let read = at_end (codes_content scaler) (ends_many ended (λ u. scaler_value) alone tt) (i + 1) end ws (omega arith) here.inside vs j l d in
-          record { opened = content_read here vs read h.few (form_row scaler e) t.stored n }
+    module _ {b₂ : List ℕ} where
+      pub scalers_refused : {r : Refusal} → Scanned (content_rows scaler) (content scaler (i + 1) (slice (i + 1) end ws)) (k + 1) b₁ (Err r) b₂ → Opens ws i k b b₂ (Err r)
+      scalers_refused s =
+          let t = refused_scan (content_rows scaler) (content scaler (i + 1) (slice (i + 1) end ws)) s in
+          record { opened = record { number = t.number; place = t.place; refused = content_refused here t.refused; named = t.named } }
+
+      pub opens_scalers : {count : ℕ} → Scanned (content_rows scaler) (content scaler (i + 1) (slice (i + 1) end ws)) (k + 1) b₁ (Ok count) b₂ → Opens ws i k b b₂ (Ok (opened.Whole (part end count)))
+      opens_scalers {count} s = go (content scaler (i + 1) (slice (i + 1) end ws)) refl s
+        where
+          go : (x : Result ℕ (List ℕ)) → content scaler (i + 1) (slice (i + 1) end ws) ≡ x → Scanned (content_rows scaler) x (k + 1) b₁ (Ok count) b₂ → Opens ws i k b b₂ (Ok (opened.Whole (part end count)))
+          go (refuse m q) d t = let a = t.answered in impossible cc
+          go (ok vs j l) d t =
+              let a = t.answered in
+              let n : count ≡ k + 1 + length (content_rows scaler vs) = cc in
+              let read = at_end (codes_content scaler) (ends_many ended (λ u. scaler_value) alone tt) (i + 1) end ws (omega arith) here.inside vs j l d in
+              record { opened = content_read here vs read h.few (form_row scaler six) t.stored n }
+
+-- what a region was opened as
+module _ {ws : List ℕ} {i k : ℕ} {b b₁ : List ℕ} {o : Opened} (s : Opens ws i k b b₁ (Ok o)) where
+  pub opened_whole : {p : Part} → o ≡ opened.Whole p → Whole region_rows (region i (drop i ws)) ws k b b₁ p.next p.count
+  opened_whole e = (rw e at s).opened
+
+  pub opened_chamber : {end : ℕ} → o ≡ Chamber end → Opens ws i k b b₁ (Ok (Chamber end))
+  opened_chamber e = rw e at s
 
 -- a VDC region, by its words
-module _ {ws : List ℕ} {i k end : ℕ} {b b₁ : List ℕ} (o : Opens ws i k b b₁ (Chamber end)) where
+module _ {ws : List ℕ} {i k end : ℕ} {b b₁ : List ℕ} (o : Opens ws i k b b₁ (Ok (Chamber end))) where
   pub chamber_inside : (i + 1 ≤ end) × (end ≤ length ws)
   chamber_inside = omega (arith, o.opened.0.inside, o.opened.1)
 

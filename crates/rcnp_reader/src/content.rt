@@ -9,20 +9,19 @@ ghost use Rattle.rcnp_layout.specs.Reading.{content};
 ghost use Rattle.rcnp_reader.specs.Regions.{vdc_word_row};
 
 use crate::word::word;
+use event::Row;
+use event::kind::Kind;
+use event::refusal::{Fault, Refusal, refuse};
 use event::rows::{fitting, store_row};
 use event::words::pick;
-use event::{Answer, Row, kind, refusal};
 
 // Stores a row for each word, those that fit. Opaque words are not looked at otherwise.
 pub(crate) fn store_words(words: &[u16], first: usize, end: usize, rows: &mut [u32], at: usize)
     requires { (first ≤ end) × (end ≤ length words.now) }
     ensures { rows.new ≡ store_rows rows.old at (map word_row (slice first end words.now)) }
 {
-    let most = fitting(end - first, at, rows.len() / 4);
-    let mut i: usize = 0;
-    while i < most {
+    for i in 0..fitting(end - first, at, rows.len() / 4) {
         put_row(rows, at + i, word_row(word(words, first + i)));
-        i += 1;
     }
 }
 
@@ -31,11 +30,8 @@ pub(crate) fn store_chamber(words: &[u16], first: usize, end: usize, rows: &mut 
     requires { (first ≤ end) × (end ≤ length words.now) }
     ensures { rows.new ≡ store_rows rows.old at (map vdc_word_row (slice first end words.now)) }
 {
-    let most = fitting(end - first, at, rows.len() / 4);
-    let mut i: usize = 0;
-    while i < most {
+    for i in 0..fitting(end - first, at, rows.len() / 4) {
         put_row(rows, at + i, vdc_row(word(words, first + i)));
-        i += 1;
     }
 }
 
@@ -56,7 +52,7 @@ pub(crate) fn word_row(w: u32) -> Row
     ensures { result ≡ word_row w }
 {
     Row {
-        kind: kind::REGION_WORD,
+        kind: Kind::RegionWord as u32,
         unit: 0,
         channel: 0,
         datum: w,
@@ -70,7 +66,7 @@ fn vdc_row(w: u32) -> Row
 {
     let head = 0x8000 <= w;
     Row {
-        kind: pick(head, kind::VDC_MODULE, kind::VDC_DATUM),
+        kind: pick(head, Kind::VdcModule as u32, Kind::VdcDatum as u32),
         unit: pick(head, w % 256, 0),
         channel: pick(head, w / 2048 % 8, w / 1024),
         datum: pick(head, w / 256 % 8, w % 1024),
@@ -84,29 +80,24 @@ pub(crate) fn scalers(
     end: usize,
     rows: &mut [u32],
     at: usize,
-) -> Answer
+) -> Result<usize, Refusal>
     requires { (first ≤ end) × (end ≤ length words.now) × ((end - first) % 2 ≡ 0) × (end - first < 4096) × (at ≤ first) }
     ensures { Scanned (content_rows scaler) (content scaler first (slice first end words.now)) at rows.old result rows.new }
 {
     let n = (end - first) / 2;
-    let mut index: usize = 0;
-    while index < n {
+    for index in 0..n {
         let place = first + 2 * index;
         let high = word(words, place + 1);
         if 0xff < high {
-            return Answer::Refused {
-                number: refusal::DATA,
-                place: place + 1,
-            };
+            return refuse(Fault::Data, place + 1);
         }
         let row = Row {
-            kind: kind::REGION_SCALER,
+            kind: Kind::RegionScaler as u32,
             unit: 0,
             channel: index as u32,
             datum: high * 0x0001_0000 + word(words, place),
         };
         store_row(rows, at + index, row);
-        index += 1;
     }
-    Answer::Accepted(at + n)
+    Ok(at + n)
 }

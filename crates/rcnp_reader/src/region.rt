@@ -1,38 +1,39 @@
 // One region before the check sum: its header, and what its words give.
 ghost use Rattle.std.specs.Prelude.{◌≤◌, ◌<◌, ◌≡◌, length};
-ghost use Rattle.rcnp_reader.specs.Regions.{Headed, Opens, read_to};
+ghost use Rattle.rcnp_reader.specs.Regions.{Headed, Opens};
 
 use crate::Opened;
 use crate::content::{scalers, store_words};
 use crate::word::word;
+use event::kind::Kind;
+use event::refusal::{Fault, Refusal, refuse};
 use event::rows::store_row;
-use event::{Answer, Row, kind, refusal};
+use event::{Part, Row};
 
 // Refusals 6, 5 and 7 of the header at `at`, then the region; the words of a VDC region are left to the caller.
 // Id in bits 15-12, size in bits 11-0.
-pub(crate) fn open_region(words: &[u16], at: usize, rows: &mut [u32], count: usize) -> Opened
+pub(crate) fn open_region(
+    words: &[u16],
+    at: usize,
+    rows: &mut [u32],
+    count: usize,
+) -> Result<Opened, Refusal>
     requires { (at < length words.now) × (count ≤ at) }
     ensures { Opens words.now at count rows.old rows.new result }
 {
     let header = word(words, at);
     let id = header / 4096;
     if !rcnp_format::has_form(id) {
-        return refuse_region(refusal::TAG, at);
+        return refuse(Fault::Tag, at);
     }
     let size = header % 4096;
     if words.len() - at <= size as usize {
-        return refuse_region(refusal::EXTENT, at);
+        return refuse(Fault::Extent, at);
     }
     if !rcnp_format::allows_size(id, size) {
-        return refuse_region(refusal::LENGTH, at);
+        return refuse(Fault::Length, at);
     }
     read_region(words, at, id, size, rows, count)
-}
-
-fn refuse_region(number: u32, place: usize) -> Opened
-    ensures { result ≡ Opened.Refused number place }
-{
-    Opened::Refused { number, place }
 }
 
 // The region at `at` with this id and size, which it may have: its own row, and its content.
@@ -43,12 +44,12 @@ fn read_region(
     size: u32,
     rows: &mut [u32],
     count: usize,
-) -> Opened
+) -> Result<Opened, Refusal>
     requires { Headed words.now at id size × (count ≤ at) }
     ensures { Opens words.now at count rows.old rows.new result }
 {
     let row = Row {
-        kind: kind::REGION,
+        kind: Kind::Region as u32,
         unit: id,
         channel: size,
         datum: 0,
@@ -57,24 +58,18 @@ fn read_region(
     let first = at + 1;
     let end = first + size as usize;
     if id == rcnp_format::VDC {
-        return Opened::Chamber { end };
+        return Ok(Opened::Chamber { end });
     }
     if id == rcnp_format::SCALER {
-        return read_to(end, scalers(words, first, end, rows, count + 1));
+        let read = scalers(words, first, end, rows, count + 1)?;
+        return Ok(Opened::Whole(Part {
+            next: end,
+            count: read,
+        }));
     }
     store_words(words, first, end, rows, count + 1);
-    Opened::Whole {
+    Ok(Opened::Whole(Part {
         next: end,
         count: count + 1 + (end - first),
-    }
-}
-
-// A region that ends at `end`, by the answer to its content.
-fn read_to(end: usize, read: Answer) -> Opened
-    ensures { result ≡ read_to end read }
-{
-    match read {
-        Answer::Accepted(count) => Opened::Whole { next: end, count },
-        Answer::Refused { number, place } => Opened::Refused { number, place },
-    }
+    }))
 }

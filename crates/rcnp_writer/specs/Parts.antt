@@ -1,7 +1,7 @@
 -- The parts of an event as the code writes them (the contracts of private functions).
 -- Assumes nothing.
 use Rattle.std.specs.Prelude.{◌≡◌, ℕ, ◌+◌, ◌-◌, ◌*◌, ◌%◌, ◌<◌, ◌≤◌, Bool, cond, T, List, [], ◌∷◌, length, take, drop, ◌==◌, nat_lt, slice_index_or}
-use Rattle.event.specs.declared.Part.{Part}
+use Rattle.event.specs.Refusal.{PartAnswer}
 use Rattle.event.specs.declared.Row.{Row}
 use Rattle.event.specs.Parser.{Result, Parser, ◌>>=◌, ◌>>◌, give, finish, each}
 use Rattle.event.specs.Scanning.{store_words, Writes}
@@ -30,7 +30,7 @@ last_region = do
   give w
 
 -- a part that x parsed from rows, whose words are counted after k others, and not stored
-abbrev pub Counts : {A : Type 0} → (A → List ℕ) → Result Row A → List Row → ℕ → Part → Type 0
+abbrev pub Counts : {A : Type 0} → (A → List ℕ) → Result Row A → List Row → ℕ → PartAnswer → Type 0
 Counts words_of x rs k r = Writes 16 words_of x rs k [] r []
 
 -- the words of m rows from row i on

@@ -3,13 +3,14 @@ ghost use Rattle.std.specs.Prelude.{◌≡◌, ◌<◌, length};
 ghost use Rattle.event.specs.Writing.{rows_in, row_at};
 ghost use Rattle.rcnp_writer.specs.Parts.{run_words};
 
-use event::{Row, kind};
+use event::Row;
+use event::kind::Kind;
 
 // How many rows of one word each follow a region's own row: as many as its size says, but for scalers.
 pub(crate) fn run_words(row: Row) -> usize
     ensures { result ≡ run_words row }
 {
-    if row.kind != kind::REGION {
+    if row.kind != Kind::Region as u32 {
         return 0;
     }
     if row.unit == rcnp_format::SCALER {

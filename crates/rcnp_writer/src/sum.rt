@@ -8,18 +8,18 @@ ghost use Rattle.rcnp_writer.specs.Parts.{of_chamber, of_run, RunAt, Runs, Summe
 
 use crate::run::{row_there, run_words};
 use crate::word::{field_word, vdc_word};
+use event::Row;
+use event::kind::Kind;
 use event::rows::row_at;
-use event::{Row, kind};
-use std::num::{wrapping_add_u32, wrapping_add_usize};
 
 // The sum of the words that a row says. Most rows are words as they are.
 fn row_total(row: Row) -> usize
     ensures { result ≡ total (row_words row) }
 {
-    if row.kind == kind::REGION_WORD {
+    if row.kind == Kind::RegionWord as u32 {
         return row.datum as usize;
     }
-    if row.kind == kind::REGION_SCALER {
+    if row.kind == Kind::RegionScaler as u32 {
         return (row.datum % 65536 + row.datum / 65536) as usize;
     }
     field_word(row)
@@ -31,11 +31,8 @@ fn sum_words(rows: &[u32], first: usize, n: usize) -> usize
     ensures { Summed (rows_in rows.now) first (first + n) result }
 {
     let mut sum: usize = 0;
-    let mut k: usize = 0;
-    while k < n {
-        let row = row_there(rows, first + k);
-        sum = wrapping_add_usize(sum, row.datum as usize);
-        k += 1;
+    for k in 0..n {
+        sum = sum.wrapping_add(row_there(rows, first + k).datum as usize);
     }
     sum
 }
@@ -46,11 +43,9 @@ fn sum_chamber(rows: &[u32], first: usize, n: usize) -> usize
     ensures { Summed (rows_in rows.now) first (first + n) result }
 {
     let mut sum: u32 = 0;
-    let mut k: usize = 0;
-    while k < n {
+    for k in 0..n {
         let word = vdc_word(row_there(rows, first + k));
-        sum = wrapping_add_u32(sum, (word % 0x1_0000_0000) as u32);
-        k += 1;
+        sum = sum.wrapping_add((word % 0x1_0000_0000) as u32);
     }
     sum as usize
 }
@@ -77,7 +72,7 @@ pub(crate) fn row_sum(rows: &[u32]) -> usize
         let row = row_at(rows, i);
         let n = run_words(row);
         let run = sum_run(rows, row, i + 1, n);
-        sum = wrapping_add_usize(wrapping_add_usize(sum, row_total(row)), run);
+        sum = sum.wrapping_add(row_total(row)).wrapping_add(run);
         i += 1 + n;
     }
     sum % 65536

@@ -4,7 +4,8 @@ ghost use Rattle.rcnp_layout.specs.Layout.{header_word, vdc_word};
 ghost use Rattle.rcnp_layout.specs.Writing.{vdc_of};
 ghost use Rattle.rcnp_writer.specs.RowWords.{field_word};
 
-use event::{Row, kind};
+use event::Row;
+use event::kind::Kind;
 
 // A region's header: id in bits 15-12, size in bits 11-0.
 fn header_word(id: u32, size: u32) -> usize
@@ -21,7 +22,7 @@ pub(crate) fn vdc_word(row: Row) -> usize
     let channel = row.channel as usize * 1024;
     let datum = row.datum as usize;
     let more = 32768 + channel + datum * 255 + row.unit as usize;
-    channel + datum + only_if(row.kind == kind::VDC_MODULE, more)
+    channel + datum + only_if(row.kind == Kind::VdcModule as u32, more)
 }
 
 // The number, or 0.
@@ -36,7 +37,7 @@ fn only_if(held: bool, number: usize) -> usize
 pub(crate) fn field_word(row: Row) -> usize
     ensures { result ≡ field_word row }
 {
-    if kind::REGION_SCALER < row.kind {
+    if row.kind > Kind::RegionScaler as u32 {
         return vdc_word(row);
     }
     header_word(row.unit, row.channel)

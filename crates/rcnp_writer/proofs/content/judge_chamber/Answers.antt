@@ -23,9 +23,3 @@ pub returns-then-chamber_right : goal.returns-then-chamber_right
 returns-then-chamber_right c =
     let right : ChamberRight (rows_in c.args.rows.now) c.args.first c.args.n = c.chamber_right.ensures c.if-chamber_right.true in
     chamber_right (rows_in c.args.rows.now) c.args.n c.args.first c.requires.0 right
-
-pub chamber_fault-requires : goal.chamber_fault-requires
-chamber_fault-requires c = c.requires
-
-pub returns : goal.returns
-returns c = c.chamber_fault.ensures

@@ -56,7 +56,7 @@ loop-i-preserved c =
     let l = c.loop-i in (
       omega (arith, run.inside),
       sum_next (rows_in c.args.rows.now) l.i l.sum c.run_words-n.result below l.invariant.1 c.row_at-row.ensures c.row_total.ensures
-          c.sum_run-run.ensures c.wrapping_add_usize.ensures.value c.wrapping_add_usize-sum.ensures.value,
+          c.sum_run-run.ensures refl refl,
     )
 
 pub returns : goal.returns
