@@ -18,7 +18,7 @@ use Rattle.event.specs.Words.{store_word}
 use Rattle.event.specs.Writing.{of_kind, no_row}
 use Rattle.event.specs.Scanning.{store_words, writing_all, writing_part, ScannedBy, LeadsBy, RefusedAs, Writes}
 use Rattle.event.specs.Demands.{InWidth}
-use Rattle.event.proofs.Leads.{leads_part, store_append, scanned_refuse}
+use Rattle.event.proofs.Leads.{leads_part, store_append}
 use Rattle.event.proofs.RowJudged.{row_taken, row_refused}
 use Rattle.event.proofs.Sequences.{codes_optionally}
 use Rattle.event.proofs.Ends.{placed}
@@ -139,16 +139,7 @@ module _ (rs : List Row) (before : List ℕ) {r : Row} (e : r ≡ get_or rs 0 no
 abbrev pub Laid : List Row → List ℕ → Answer → List ℕ → Type 0
 Laid rs before = ScannedBy (writing_all 32) words (event_rows_up_to ended 0 rs) 0 before
 
-pub head_refused : {rs : List Row} {before b : List ℕ} {refused : Refusal} (after : List ℕ) → Begins rs before b (Err refused) → Laid rs before (Err refused) after
-head_refused {rs} {before} {refused = refused} after s = go s.begun
-  where
-    go : RefusedAs (event_rows_up_to ended 0 rs) refused → Laid rs before (Err refused) after
-    go t = rw t.named (scanned_refuse words {n = t.number} {p = t.place} 0 before after t.refused)
-
 module _ {rs : List Row} {before b : List ℕ} {begun : Part} (s : Begins rs before b (Ok begun)) where
-  pub modules_there : (begun.next ≤ length rs) × (begun.count ≤ 4 * begun.next)
-  modules_there = (s.begun.inside, s.begun.few)
-
   module _ {r : PartAnswer} {after : List ℕ} (m : Writes 32 (each module_words) (many one_module geos ended [] begun.next (drop begun.next rs)) rs begun.count b r after) where
     whole : ScannedBy (writing_part 32) words (event_rows_up_to ended 0 rs) 0 before r after
     whole = s.begun.leads.leads r after m.scanned
