@@ -1,5 +1,7 @@
 // The packets of times or energies, and the hodoscope's hits: what follows a packet's own row, at the front of `part`.
-ghost use Rattle.std.specs.Prelude.{◌≤◌, ◌<◌, length, drop};
+#![tactic(auto, using(event::proofs::RowsIn::rows_count))]
+
+ghost use Rattle.std.specs.Prelude.{◌≤◌, drop};
 ghost use Rattle.event.specs.Scanning.{Writes};
 ghost use Rattle.event.specs.Writing.{rows_in};
 ghost use Rattle.s800_layout.specs.Layout.{register_words};

@@ -1,5 +1,7 @@
 // The packets of pairs, of groups of samples and an anode, of opaque words: what follows a packet's own row, at the front of `part`.
-ghost use Rattle.std.specs.Prelude.{◌<◌, ◌≡◌, length, drop};
+#![tactic(auto, using(event::proofs::RowsIn::rows_count))]
+
+ghost use Rattle.std.specs.Prelude.{◌≡◌, drop};
 ghost use Rattle.event.specs.Scanning.{Writes};
 ghost use Rattle.event.specs.Writing.{rows_in};
 ghost use Rattle.s800_layout.specs.Event.{Opaque, scintillator, crdc, opaque, anode_tag, tag as tag_of};

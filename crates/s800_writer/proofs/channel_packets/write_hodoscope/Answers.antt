@@ -4,11 +4,7 @@ use Rattle.s800_layout.specs.Event.{hodoscope}
 use Rattle.s800_writer.proofs.Failures.{handed_on}
 use Rattle.s800_writer.proofs.Packets.{packet_closed, content_refused, hits_content_lem, energies_content_lem}
 use Rattle.event.specs.Writing.{rows_in}
-use Rattle.event.proofs.RowsIn.{rows_count}
 use Rattle.s800_writer.proofs.channel_packets.write_hodoscope.Goals as goal
-
-pub overflow_add-own : goal.overflow_add-own
-overflow_add-own c = omega (arith, rows_count c.args.own.rows.now, c.args.own.there)
 
 pub returns-in_err-hits : goal.returns-in_err-hits
 returns-in_err-hits c =
@@ -18,10 +14,6 @@ returns-in_err-hits c =
 pub returns-then-id-eq-HITS_ID : goal.returns-then-id-eq-HITS_ID
 returns-then-id-eq-HITS_ID c =
     packet_closed hodoscope c.args.id (rows_in c.args.own.rows.now) c.args.own.at (hits_content_lem (rows_in c.args.own.rows.now) c.args.own.at c.if-id-eq-HITS_ID.true c.store_word.ensures c.in_ok-hits.ensures) c.close.ensures
-
-pub overflow_add-own-2 : goal.overflow_add-own-2
-overflow_add-own-2 c =
-    omega (arith, rows_count c.args.own.rows.now, c.args.own.there)
 
 pub write_channels-requires : goal.write_channels-requires
 write_channels-requires c = rw c.energies.ensures (omega arith)

@@ -1,14 +1,10 @@
 -- `channel_packets::write_ion_chamber` meets its contract. Assumes nothing.
 use native.Mathlib.Omega.{arith}
 use Rattle.s800_writer.proofs.Packets.{packet_closed, content_refused, chamber_content, chamber_refused}
-use Rattle.event.proofs.RowsIn.{rows_count}
 use Rattle.s800_writer.proofs.Failures.{handed_on}
 use Rattle.event.specs.Writing.{rows_in}
 use Rattle.s800_layout.specs.Event.{ion_chamber}
 use Rattle.s800_writer.proofs.channel_packets.write_ion_chamber.Goals as goal
-
-pub overflow_add-own : goal.overflow_add-own
-overflow_add-own c = omega (arith, rows_count c.args.own.rows.now, c.args.own.there)
 
 pub write_channels-requires : goal.write_channels-requires
 write_channels-requires c = rw c.energies.ensures (omega arith)

@@ -11,13 +11,6 @@ use Rattle.s800_writer.proofs.Packets.{packet_closed, packet_refused, pin_refuse
 use Rattle.event.proofs.RowsIn.{rows_count}
 use Rattle.s800_writer.proofs.channel_packets.write_object_pin.Goals as goal
 
-pub overflow_add-own : goal.overflow_add-own
-overflow_add-own c = omega (arith, rows_count c.args.own.rows.now, c.args.own.there)
-
-pub overflow_add-own-2 : goal.overflow_add-own-2
-overflow_add-own-2 c =
-    omega (arith, rows_count c.args.own.rows.now, c.args.own.there)
-
 pub returns-in_err-check_channel : goal.returns-in_err-check_channel
 returns-in_err-check_channel c =
     let failed = failed_test (datum_fault c.energies-format.result 0 c.row_at-row.result) (c.args.own.at + 1) c.in_err-check_channel.ensures in

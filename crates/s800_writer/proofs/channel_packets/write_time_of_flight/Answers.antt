@@ -3,12 +3,8 @@ use native.Mathlib.Omega.{arith}
 use Rattle.s800_layout.specs.Event.{time_of_flight}
 use Rattle.s800_writer.proofs.Failures.{handed_on}
 use Rattle.event.specs.Writing.{rows_in}
-use Rattle.event.proofs.RowsIn.{rows_count}
 use Rattle.s800_writer.proofs.Packets.{packet_closed, content_refused, flight_content}
 use Rattle.s800_writer.proofs.channel_packets.write_time_of_flight.Goals as goal
-
-pub overflow_add-own : goal.overflow_add-own
-overflow_add-own c = omega (arith, rows_count c.args.own.rows.now, c.args.own.there)
 
 pub write_channels-requires : goal.write_channels-requires
 write_channels-requires c = rw c.flight_times.ensures (omega arith)

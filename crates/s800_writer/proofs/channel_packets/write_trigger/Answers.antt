@@ -10,13 +10,6 @@ use Rattle.event.specs.Writing.{rows_in}
 use Rattle.event.proofs.RowsIn.{rows_count}
 use Rattle.s800_writer.proofs.channel_packets.write_trigger.Goals as goal
 
-pub overflow_add-own : goal.overflow_add-own
-overflow_add-own c = omega (arith, rows_count c.args.own.rows.now, c.args.own.there)
-
-pub overflow_add-own-2 : goal.overflow_add-own-2
-overflow_add-own-2 c =
-    omega (arith, rows_count c.args.own.rows.now, c.args.own.there)
-
 pub returns-in_err-check_limits : goal.returns-in_err-check_limits
 returns-in_err-check_limits c =
     let failed = failed_test (limits_fault 4 0 0 31 c.row_at-pattern.result) (c.args.own.at + 1) c.in_err-check_limits.ensures in

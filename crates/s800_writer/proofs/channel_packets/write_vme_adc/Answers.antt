@@ -4,11 +4,7 @@ use Rattle.s800_layout.specs.Event.{vme_adc}
 use Rattle.s800_writer.proofs.Failures.{handed_on}
 use Rattle.s800_writer.proofs.Packets.{packet_closed, content_refused, adc_content}
 use Rattle.event.specs.Writing.{rows_in}
-use Rattle.event.proofs.RowsIn.{rows_count}
 use Rattle.s800_writer.proofs.channel_packets.write_vme_adc.Goals as goal
-
-pub overflow_add-own : goal.overflow_add-own
-overflow_add-own c = omega (arith, rows_count c.args.own.rows.now, c.args.own.there)
 
 pub write_channels-requires : goal.write_channels-requires
 write_channels-requires c = rw c.adc_energies.ensures (omega arith)

@@ -11,13 +11,6 @@ use Rattle.s800_layout.specs.Event.{crdc}
 use Rattle.event.proofs.RowsIn.{rows_count}
 use Rattle.s800_writer.proofs.other_packets.write_crdc.Goals as goal
 
-pub overflow_add-own : goal.overflow_add-own
-overflow_add-own c = omega (arith, rows_count c.args.own.rows.now, c.args.own.there)
-
-pub overflow_add-own-2 : goal.overflow_add-own-2
-overflow_add-own-2 c =
-    omega (arith, rows_count c.args.own.rows.now, c.args.own.there)
-
 pub returns-in_err-check_limits : goal.returns-in_err-check_limits
 returns-in_err-check_limits c =
     let failed = failed_test (limits_fault 7 0 0 65535 c.row_at-threshold.result) (c.args.own.at + 1) c.in_err-check_limits.ensures in

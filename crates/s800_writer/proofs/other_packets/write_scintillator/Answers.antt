@@ -1,14 +1,9 @@
 -- `other_packets::write_scintillator` meets its contract. Assumes nothing.
-use native.Mathlib.Omega.{arith}
 use Rattle.s800_layout.specs.Event.{scintillator}
 use Rattle.s800_writer.proofs.Packets.{packet_closed, content_refused}
 use Rattle.s800_writer.proofs.Failures.{handed_on}
 use Rattle.event.specs.Writing.{rows_in}
-use Rattle.event.proofs.RowsIn.{rows_count}
 use Rattle.s800_writer.proofs.other_packets.write_scintillator.Goals as goal
-
-pub overflow_add-own : goal.overflow_add-own
-overflow_add-own c = omega (arith, rows_count c.args.own.rows.now, c.args.own.there)
 
 pub returns-in_err-pairs : goal.returns-in_err-pairs
 returns-in_err-pairs c =
