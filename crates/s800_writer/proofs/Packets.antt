@@ -1,6 +1,6 @@
 -- The packets, written after their own row: from the words of their content to the packet. Over plain values.
 -- Assumes nothing.
-use Prim.Native.Nat.{ℕ, ◌+◌, ◌-◌, ◌^◌, ◌≤◌, ◌<◌}
+use Prim.Native.Nat.{ℕ, ◌+◌, ◌*◌, ◌-◌, ◌^◌, ◌≤◌, ◌<◌}
 use native.Mathlib.Omega.{arith}
 use mathlib.Core.Path.{◌≡◌, refl, sym, ap, subst, ◌∙◌}
 use mathlib.Core.List.{List, [], ◌∷◌, map}
@@ -155,9 +155,10 @@ module _ (rs : List Row) (i : ℕ) {r : Row} (e : r ≡ get_or rs i no_row) wher
   pub hits_inside : 0 ≡ limits_fault 10 65535 65535 65535 r → i < length rs
   hits_inside f = (one_taken 10 65535 65535 65535 registers_of register_row (register_checks 22) hits_fault refl (λ a. (tt, (tt, (tt, tt)))) rs i e f).0
 
-  pub hits_taken : {b b₁ b₂ b₃ : List ℕ} → 0 ≡ limits_fault 10 65535 65535 65535 r → 1 ≤ i → b₁ ≡ store_word 16 b 3 r.unit → b₂ ≡ store_word 16 b₁ 4 r.channel → b₃ ≡ store_word 16 b₂ 5 r.datum
-      → Writes 16 register_words (registers i (drop i rs)) rs 3 b (Ok (part (i + 1) 6)) b₃
-  hits_taken f low p q s =
+  pub hits_taken : {n : ℕ} {b b₁ b₂ b₃ : List ℕ} → 0 ≡ limits_fault 10 65535 65535 65535 r → n ≤ 4 * i → b₁ ≡ store_word 16 b n r.unit → b₂ ≡ store_word 16 b₁ (n + 1) r.channel
+      → b₃ ≡ store_word 16 b₂ (n + 2) r.datum → Writes 16 register_words (registers i (drop i rs)) rs n b (Ok (part (i + 1) (n + 3))) b₃
+  hits_taken {n} {b} {b₁} {b₂} f few p q s =
       let t = one_taken 10 65535 65535 65535 registers_of register_row (register_checks 22) hits_fault refl (λ a. (tt, (tt, (tt, tt)))) rs i e f in
       let l = t.0 in
-      writes_done 16 register_words t.1 refl refl (s ∙ rw (q, p)) (omega arith) (omega arith)
+      let two : n + 2 ≡ n + 1 + 1 = omega arith in
+      writes_done 16 register_words t.1 refl refl (s ∙ rw (two, q, p)) (omega arith) (omega arith)

@@ -1,6 +1,6 @@
 -- The refusal that one row meets, as the code finds it (the contracts of private functions).
 -- Assumes nothing.
-use Rattle.std.specs.Prelude.{ℕ, ◌*◌, ◌-◌, ◌^◌, ◌≤◌, cond, ◌&&◌, List, [], ◌∷◌, eqb, ltb, leb, length}
+use Rattle.std.specs.Prelude.{ℕ, ◌-◌, ◌^◌, cond, ◌&&◌, List, [], ◌∷◌, eqb, ltb, leb}
 use Rattle.event.specs.declared.Row.{Row}
 use Rattle.event.specs.Channels.{present}
 use Rattle.event.specs.Parser.{fault_in}
@@ -45,8 +45,3 @@ datum_words m d = datum_word (format_of m) d ∷ []
 -- a pair of two rows
 abbrev pub pair_of : (energy time : Row) → Pair
 pair_of e t = record { energy = datum_of 0 e; time = t.datum }
-
--- rows from i on, after k words
-pub record RunAt (rs : List Row) (i k : ℕ) : Type 0 where
-  pub inside : i ≤ length rs
-  pub few : k ≤ 4 * i
