@@ -14,8 +14,8 @@ use Rattle.event.proofs.RowJudged.{rows_from_lem}
 use Rattle.event.proofs.WordStores.{length_words, past_the_end, part_written}
 use Rattle.rcnp_layout.specs.Layout.{scaler_words, vdc_word}
 use Rattle.rcnp_layout.specs.Writing.{vdc_of}
-use Rattle.rcnp_writer.specs.Parts.{of_chamber, RunAt, words_in, Filled}
-use Rattle.rcnp_writer.specs.RowWords.{field_word, row_words}
+use Rattle.rcnp_writer.specs.Parts.{of_chamber, such, RunAt, words_in, Filled}
+use Rattle.rcnp_writer.specs.RowWords.{field_word, row_words, run_word}
 
 -- one row's words, by its kind
 module _ (r : Row) (b : List ℕ) (at : ℕ) where
@@ -83,13 +83,17 @@ filled_then {rs} {i} {j} {k} {at} {b = b} f g =
     }
 
 -- rows of one word each
-pub word_alone_lem : (r : Row) → T (of_kind 33 r) → row_words r ≡ r.datum ∷ []
+word_alone_lem : (r : Row) → T (of_kind 33 r) → row_words r ≡ r.datum ∷ []
 word_alone_lem r t = rw (T_true (of_kind 33 r) t)
 
-pub chamber_alone : (r : Row) → T (of_chamber r) → row_words r ≡ vdc_word (vdc_of r) ∷ []
+chamber_alone : (r : Row) → T (of_chamber r) → row_words r ≡ vdc_word (vdc_of r) ∷ []
 chamber_alone r t =
     let h = ltb→lt 34 r.kind t in
     rw (ne_eqb 33 r.kind (λ e. omega arith), ne_eqb 34 r.kind (λ e. omega arith), T_true (ltb 34 r.kind) t)
+
+pub such_alone : (chamber : Bool) (r : Row) → T (such chamber r) → row_words r ≡ run_word chamber r ∷ []
+such_alone true = chamber_alone
+such_alone false = word_alone_lem
 
 -- one of them more
 pub filled_one : (k : ℕ) {rs : List Row} {i at w : ℕ} {b₀ b b' : List ℕ} {r : Row} → Filled rs i (i + k) at (at + k) b₀ b → i + k < length rs → r ≡ get_or rs (i + k) no_row

@@ -41,10 +41,7 @@ wrapped a = omega arith
 added : (a b c : ℕ) → a % 65536 ≡ b % 65536 → (a + c) % 65536 ≡ (b + c) % 65536
 added a b c e = omega arith
 
--- a word more, in 64 bits or in 32
-pub wrapped_64 : (sum w : ℕ) {next : ℕ} → next ≡ (sum + w) % 2 ^ 64 → next % 65536 ≡ (sum + w) % 65536
-wrapped_64 sum w e = rw e (wrapped (sum + w))
-
+-- a word more, in 32 bits
 pub wrapped_32 : (sum w : ℕ) {part next : ℕ} → part ≡ w % 2 ^ 32 → next ≡ (sum + part) % 2 ^ 32 → next % 65536 ≡ (sum + w) % 65536
 wrapped_32 sum w e p = rw (p, e) (omega arith)
 
