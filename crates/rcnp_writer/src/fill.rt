@@ -42,13 +42,23 @@ fn put_word(words: &mut [u16], at: usize, word: usize)
 }
 
 // The words of n rows of one word each, of the chamber or not, from row `first` on, from word `at` on: those that fit, so that the loop has no test.
-fn store_words<const CHAMBER: bool>(rows: &[u32], first: usize, n: usize, words: &mut [u16], at: usize)
+fn store_words<const CHAMBER: bool>(
+    rows: &[u32],
+    first: usize,
+    n: usize,
+    words: &mut [u16],
+    at: usize,
+)
     requires { RunAt (such CHAMBER) (rows_in rows.now) first n × (at ≤ 2 * first) }
     ensures { Filled (rows_in rows.now) first (first + n) at (at + n) words.old words.new }
 {
     let most = fitting(n, at, words.len());
     for k in 0..most {
-        put_word(words, at + k, run_word::<CHAMBER>(row_there(rows, first + k)));
+        put_word(
+            words,
+            at + k,
+            run_word::<CHAMBER>(row_there(rows, first + k)),
+        );
     }
 }
 

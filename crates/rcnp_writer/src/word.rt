@@ -29,7 +29,11 @@ fn vdc_word(row: Row) -> usize
 pub(crate) fn run_word<const CHAMBER: bool>(row: Row) -> usize
     ensures { result ≡ run_word CHAMBER row }
 {
-    if CHAMBER { vdc_word(row) } else { row.datum as usize }
+    if CHAMBER {
+        vdc_word(row)
+    } else {
+        row.datum as usize
+    }
 }
 
 // The number, or 0.

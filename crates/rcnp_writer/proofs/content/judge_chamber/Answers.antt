@@ -6,16 +6,8 @@ use Rattle.rcnp_writer.specs.Faults.{ChamberRight}
 use Rattle.rcnp_writer.proofs.Contents.{chamber_right}
 use Rattle.rcnp_writer.proofs.content.judge_chamber.Goals as goal
 
-pub chamber_right-requires : goal.chamber_right-requires
-chamber_right-requires c = c.requires.1
-
 pub overflow_add-result : goal.overflow_add-result
 overflow_add-result c =
-    let right : ChamberRight (rows_in c.args.rows.now) c.args.first c.args.n = c.chamber_right.ensures c.if-chamber_right.true in
-    omega (arith, right.inside, rows_count c.args.rows.now)
-
-pub overflow_add-result-then-chamber_right : goal.overflow_add-result-then-chamber_right
-overflow_add-result-then-chamber_right c =
     let right : ChamberRight (rows_in c.args.rows.now) c.args.first c.args.n = c.chamber_right.ensures c.if-chamber_right.true in
     omega (arith, right.inside, rows_count c.args.rows.now)
 

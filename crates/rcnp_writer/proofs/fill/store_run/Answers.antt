@@ -2,12 +2,3 @@
 use Rattle.rcnp_writer.proofs.Filled.{same_length}
 use Rattle.rcnp_writer.proofs.RunsOfRows.{of_chamber_lem, of_words}
 use Rattle.rcnp_writer.proofs.fill.store_run.Goals as goal
-
-pub store_words-requires : goal.store_words-requires
-store_words-requires c = (of_chamber_lem c.args.own c.requires.0 c.if-own.true, c.requires.1)
-
-pub shape_of-words-then-own : goal.shape_of-words-then-own
-shape_of-words-then-own c = same_length c.store_words.ensures
-
-pub shape_of-words-else-own : goal.shape_of-words-else-own
-shape_of-words-else-own c = same_length c.store_words-else-own.ensures

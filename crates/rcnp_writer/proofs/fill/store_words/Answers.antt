@@ -7,20 +7,8 @@ use Rattle.rcnp_writer.specs.RowWords.{run_word}
 use Rattle.rcnp_writer.proofs.Filled.{first_none, filled_one, filled_run, same_length, such_alone}
 use Rattle.rcnp_writer.proofs.fill.store_words.Goals as goal
 
-pub loop-k-init : goal.loop-k-init
-loop-k-init g c = first_none (omega (arith, c.requires.0.inside))
-
 pub overflow_add-first : goal.overflow_add-first
 overflow_add-first g c = omega (arith, c.fitting-most.ensures, c.loop-k-test.true, c.requires.0.inside, rows_count c.args.rows.now)
-
-pub row_there-requires : goal.row_there-requires
-row_there-requires g c = omega (arith, c.fitting-most.ensures, c.loop-k-test.true, c.requires.0.inside)
-
-pub overflow_add-at : goal.overflow_add-at
-overflow_add-at g c = omega (arith, c.fitting-most.ensures, c.loop-k-test.true)
-
-pub put_word-requires : goal.put_word-requires
-put_word-requires g c = omega (arith, c.fitting-most.ensures, c.loop-k-test.true, same_length c.loop-k.invariant)
 
 pub loop-k-preserved : goal.loop-k-preserved
 loop-k-preserved g c =
@@ -30,9 +18,6 @@ loop-k-preserved g c =
     let e = c.row_there.ensures in
     let t = rw (← e) at (c.requires.0.each k below) in
     filled_one k c.loop-k.invariant there e (such_alone _ c.row_there.result t ∙ ap (◌∷ []) (sym c.run_word.ensures)) c.put_word.ensures
-
-pub shape_of-words : goal.shape_of-words
-shape_of-words g c = same_length c.loop-k.invariant
 
 pub returns : goal.returns
 returns g c = filled_run (such _) (run_word _) (such_alone _) c.requires.0 c.fitting-most.ensures (omega arith) (omega arith) c.loop-k.invariant

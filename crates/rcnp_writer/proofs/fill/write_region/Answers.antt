@@ -17,14 +17,6 @@ overflow_add-first c =
     in (omega (arith, run.inside, rows_count c.args.rows.now), omega (arith, o.few)) in
     omega (arith, ends)
 
-pub store_run-requires : goal.store_run-requires
-store_run-requires c =
-    let run : RunAt (of_run c.row_at-row.result) (rows_in c.args.rows.now) (c.args.first + 1) c.run_words-n.result = run_at c.row_at-row.result c.requires.1 c.requires.0 c.row_at-row.ensures
-    c.run_words-n.ensures in
-    let own : Filled (rows_in c.args.rows.now) c.args.first (c.args.first + 1) 0 c.store_row-at.result c.args.words.now c.store_row-at.new.words = filled_row c.requires.0 c.row_at-row.ensures
-    c.store_row-at.ensures in
-    (run, omega (arith, own.few))
-
 pub overflow_add-first-2 : goal.overflow_add-first-2
 overflow_add-first-2 c =
     let own : Filled (rows_in c.args.rows.now) c.args.first (c.args.first + 1) 0 c.store_row-at.result c.args.words.now c.store_row-at.new.words = filled_row c.requires.0 c.row_at-row.ensures
@@ -44,26 +36,6 @@ overflow_add-first-3 c =
     let ends : (c.args.first + 1 + c.run_words-n.result ≤ length c.args.rows.now / 4) × (c.store_row-at.result + c.run_words-n.result ≤ 2 * (c.args.first + 1 + c.run_words-n.result)) = let o = own
     in (omega (arith, run.inside, rows_count c.args.rows.now), omega (arith, o.few)) in
     omega (arith, ends)
-
-pub overflow_add-at : goal.overflow_add-at
-overflow_add-at c =
-    let own : Filled (rows_in c.args.rows.now) c.args.first (c.args.first + 1) 0 c.store_row-at.result c.args.words.now c.store_row-at.new.words = filled_row c.requires.0 c.row_at-row.ensures
-    c.store_row-at.ensures in
-    let run : RunAt (of_run c.row_at-row.result) (rows_in c.args.rows.now) (c.args.first + 1) c.run_words-n.result = run_at c.row_at-row.result c.requires.1 c.requires.0 c.row_at-row.ensures
-    c.run_words-n.ensures in
-    let ends : (c.args.first + 1 + c.run_words-n.result ≤ length c.args.rows.now / 4) × (c.store_row-at.result + c.run_words-n.result ≤ 2 * (c.args.first + 1 + c.run_words-n.result)) = let o = own
-    in (omega (arith, run.inside, rows_count c.args.rows.now), omega (arith, o.few)) in
-    omega (arith, ends)
-
-pub store_rows-requires : goal.store_rows-requires
-store_rows-requires c =
-    let own : Filled (rows_in c.args.rows.now) c.args.first (c.args.first + 1) 0 c.store_row-at.result c.args.words.now c.store_row-at.new.words = filled_row c.requires.0 c.row_at-row.ensures
-    c.store_row-at.ensures in
-    let run : RunAt (of_run c.row_at-row.result) (rows_in c.args.rows.now) (c.args.first + 1) c.run_words-n.result = run_at c.row_at-row.result c.requires.1 c.requires.0 c.row_at-row.ensures
-    c.run_words-n.ensures in
-    let ends : (c.args.first + 1 + c.run_words-n.result ≤ length c.args.rows.now / 4) × (c.store_row-at.result + c.run_words-n.result ≤ 2 * (c.args.first + 1 + c.run_words-n.result)) = let o = own
-    in (omega (arith, run.inside, rows_count c.args.rows.now), omega (arith, o.few)) in
-    omega (arith, ends, rows_count c.args.rows.now)
 
 pub returns : goal.returns
 returns c =

@@ -6,14 +6,8 @@ use Rattle.rcnp_writer.proofs.Filled.{such_alone}
 use Rattle.rcnp_writer.proofs.RowTotals.{wrapped_32, summed_none, summed_one}
 use Rattle.rcnp_writer.proofs.sum.sum_words.Goals as goal
 
-pub loop-k-init : goal.loop-k-init
-loop-k-init g c = summed_none (rows_in c.args.rows.now) c.args.first
-
 pub overflow_add-first : goal.overflow_add-first
 overflow_add-first g c = omega (arith, c.loop-k-test.true, c.requires.inside, rows_count c.args.rows.now)
-
-pub row_there-requires : goal.row_there-requires
-row_there-requires g c = omega (arith, c.loop-k-test.true, c.requires.inside)
 
 pub loop-k-preserved : goal.loop-k-preserved
 loop-k-preserved g c =

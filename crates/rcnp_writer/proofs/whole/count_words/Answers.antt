@@ -14,10 +14,6 @@ returns-in_err-count c =
 pub row_sum-requires : goal.row_sum-requires
 row_sum-requires c = taken_runs (rows_in c.args.rows.now) (count_taken (rows_in c.args.rows.now) c.in_ok-count.ensures)
 
-pub overflow_sub-rows : goal.overflow_sub-rows
-overflow_sub-rows c =
-    omega (arith, last_row (rows_in c.args.rows.now) (count_taken (rows_in c.args.rows.now) c.in_ok-count.ensures) c.row_sum.ensures, rows_count c.args.rows.now)
-
 pub returns-then-row_sum-ne0 : goal.returns-then-row_sum-ne0
 returns-then-row_sum-ne0 c =
     let taken = count_taken (rows_in c.args.rows.now) c.in_ok-count.ensures in

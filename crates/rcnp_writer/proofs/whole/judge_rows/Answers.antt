@@ -10,9 +10,6 @@ returns-in_err-regions c =
     let p = err_from_is_err_and c.from_residual.result c.from_residual.ensures.1 in
     rw (p.1, p.2) (regions_refused c.in_err-regions.ensures)
 
-pub judge_check_sum-requires : goal.judge_check_sum-requires
-judge_check_sum-requires c = (sum_there c.in_ok-regions.ensures).0
-
 pub returns-in_err-last : goal.returns-in_err-last
 returns-in_err-last c =
     let p = err_from_is_err_and c.from_residual-in_err-last.result c.from_residual-in_err-last.ensures.1 in
