@@ -19,7 +19,7 @@ use Rattle.event.proofs.Impossible.{impossible}
 use Rattle.event.proofs.Leads.{refused_scan}
 use Rattle.event.proofs.Loops.{at_end}
 use Rattle.event.proofs.Turns.{at_word}
-use Rattle.rcnp_layout.specs.Event.{Form, input_register, scaler, vdc, opaque, Content, id_of, form_of}
+use Rattle.rcnp_layout.specs.Event.{Form, input_register, scaler, vdc, opaque, Content, id_of}
 use Rattle.rcnp_layout.specs.Layout.{content_words, word_row, vdc_row, content_rows, region_row, region_rows, word_checks, ValidContent}
 use Rattle.rcnp_layout.specs.Reading.{scaler_value, vdc_of, content, region}
 use Rattle.rcnp_layout.proofs.RowCount.{in_content}

@@ -4,7 +4,7 @@ use Rattle.std.proofs.Common.{◌≡◌, ℕ, zero, suc, ◌+◌, ◌<◌, Bool,
 use lib.ListN.{length-map}
 use Rattle.event.specs.declared.Row.{Row}
 use Rattle.event.specs.Parser.{All, each, prints}
-use Rattle.event.specs.Writing.{of_kind, no_row}
+use Rattle.event.specs.Writing.{no_row}
 use Rattle.rcnp_layout.specs.Event.{VdcWord, head, datum, Opaque, adc, tdc, pcos, adc_las, tdc_las, fera, feret, Form, input_register, scaler, vdc, opaque, Content, Region, Event, id_of}
 use Rattle.rcnp_layout.specs.Layout.{size_of, vdc_word, region_row, word_row, scaler_row, next_index, vdc_row, content_rows, region_rows, sum_rows, rows}
 use Rattle.rcnp_writer.specs.Parts.{run_words, such, of_run, RunAt, Runs}

@@ -33,7 +33,7 @@ fn store_row(words: &mut [u16], at: usize, row: Row) -> usize
     at + 1
 }
 
-// A word where there is room for it.
+// A word that fits: `event::words::store_word` without its test of the room, which the loop would make for each word.
 fn put_word(words: &mut [u16], at: usize, word: usize)
     requires { at < length words.old }
     ensures { words.new ≡ store_word 16 words.old at word }
@@ -42,6 +42,7 @@ fn put_word(words: &mut [u16], at: usize, word: usize)
 }
 
 // The words of n rows of one word each, of the chamber or not, from row `first` on, from word `at` on: those that fit, so that the loop has no test.
+#[tactic(auto, using(event::proofs::RowsIn::rows_count))]
 fn store_words<const CHAMBER: bool>(
     rows: &[u32],
     first: usize,
@@ -94,6 +95,7 @@ fn store_run(rows: &[u32], own: Row, first: usize, n: usize, words: &mut [u16], 
 }
 
 // The region whose own row is row `first`, at the front of the words. Rows of one word each are stored in loops of their own.
+#[tactic(auto, using(event::proofs::RowsIn::rows_count))]
 fn write_region(rows: &[u32], first: usize, words: &mut [u16]) -> Part
     requires { (first < length (rows_in rows.now)) × Runs (rows_in rows.now) }
     ensures { (first < result.next) × Filled (rows_in rows.now) first result.next 0 result.count words.old words.new }
@@ -105,7 +107,8 @@ fn write_region(rows: &[u32], first: usize, words: &mut [u16]) -> Part
     store_rows(rows, first + 1 + n, words, at + n)
 }
 
-// (How many rows a region has is known only once it is written.) All regions, each in the part of the words that starts at its place.
+// All regions, each in the part of the words that starts at its place. (How many rows a region has is known only once it is written.)
+#[tactic(auto, using(event::proofs::RowsIn::rows_count))]
 pub(crate) fn write_regions(rows: &[u32], words: &mut [u16])
     requires { Runs (rows_in rows.now) }
     ensures { words.new ≡ store_words 16 words.old 0 (each row_words (rows_in rows.now)) }

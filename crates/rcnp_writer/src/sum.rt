@@ -27,6 +27,7 @@ fn row_total(row: Row) -> usize
 }
 
 // The sum of the words of n rows of one word each, of the chamber or not, from row `first` on, modulo 2^32: so more of them are summed at once than in 64 bits.
+#[tactic(auto, using(event::proofs::RowsIn::rows_count))]
 fn sum_words<const CHAMBER: bool>(rows: &[u32], first: usize, n: usize) -> usize
     requires { RunAt (such CHAMBER) (rows_in rows.now) first n }
     ensures { Summed (rows_in rows.now) first (first + n) result }
@@ -50,7 +51,8 @@ fn sum_run(rows: &[u32], own: Row, first: usize, n: usize) -> usize
     sum_words::<false>(rows, first, n)
 }
 
-// The sum of the words of all rows, modulo 65,536. It is taken modulo 2^64 on the way.
+// The sum of the words of all rows, modulo 65,536. It is taken modulo 2^64 on the way. (How many rows a turn takes is known only by the first of them.)
+#[tactic(auto, using(event::proofs::RowsIn::rows_count))]
 pub(crate) fn row_sum(rows: &[u32]) -> usize
     requires { Runs (rows_in rows.now) }
     ensures { result ≡ total (each row_words (rows_in rows.now)) % 65536 }

@@ -36,7 +36,7 @@ pub(crate) fn run_word<const CHAMBER: bool>(row: Row) -> usize
     }
 }
 
-// The number, or 0.
+// The number, or 0: `event::words::pick` is of 32 bits.
 fn only_if(held: bool, number: usize) -> usize
     ensures { result ≡ (if held then number else 0) }
 {

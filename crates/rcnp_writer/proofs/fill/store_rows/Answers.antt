@@ -1,7 +1,7 @@
 -- `fill::store_rows` meets its contract. Assumes nothing.
 use Rattle.std.proofs.Common.{◌≡◌, ◌/◌, length, arith}
 use Rattle.event.proofs.RowsIn.{rows_count}
-use Rattle.rcnp_writer.proofs.Filled.{filled_none, filled_row, filled_then, same_length}
+use Rattle.rcnp_writer.proofs.Filled.{filled_row, filled_then}
 use Rattle.rcnp_writer.proofs.fill.store_rows.Goals as goal
 
 pub loop-i-preserved : goal.loop-i-preserved

@@ -1,14 +1,10 @@
 -- `fill::store_words` meets its contract. Assumes nothing.
-use Rattle.std.proofs.Common.{◌≡◌, ◌+◌, ◌<◌, [], ◌∷◌, length, sym, ap, ◌∙◌, arith}
+use Rattle.std.proofs.Common.{◌+◌, ◌<◌, [], ◌∷◌, length, sym, ap, ◌∙◌, arith}
 use Rattle.event.specs.Writing.{rows_in}
-use Rattle.event.proofs.RowsIn.{rows_count}
 use Rattle.rcnp_writer.specs.Parts.{such}
 use Rattle.rcnp_writer.specs.RowWords.{run_word}
-use Rattle.rcnp_writer.proofs.Filled.{first_none, filled_one, filled_run, same_length, such_alone}
+use Rattle.rcnp_writer.proofs.Filled.{filled_one, filled_run, such_alone}
 use Rattle.rcnp_writer.proofs.fill.store_words.Goals as goal
-
-pub overflow_add-first : goal.overflow_add-first
-overflow_add-first g c = omega (arith, c.fitting-most.ensures, c.loop-k-test.true, c.requires.0.inside, rows_count c.args.rows.now)
 
 pub loop-k-preserved : goal.loop-k-preserved
 loop-k-preserved g c =

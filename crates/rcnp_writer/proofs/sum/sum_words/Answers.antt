@@ -1,13 +1,9 @@
 -- `sum::sum_words` meets its contract. Assumes nothing.
 use Rattle.std.proofs.Common.{◌≡◌, ◌+◌, ◌<◌, [], ◌∷◌, length, sym, refl, ap, ◌∙◌, arith}
 use Rattle.event.specs.Writing.{rows_in}
-use Rattle.event.proofs.RowsIn.{rows_count}
 use Rattle.rcnp_writer.proofs.Filled.{such_alone}
-use Rattle.rcnp_writer.proofs.RowTotals.{wrapped_32, summed_none, summed_one}
+use Rattle.rcnp_writer.proofs.RowTotals.{wrapped_32, summed_one}
 use Rattle.rcnp_writer.proofs.sum.sum_words.Goals as goal
-
-pub overflow_add-first : goal.overflow_add-first
-overflow_add-first g c = omega (arith, c.loop-k-test.true, c.requires.inside, rows_count c.args.rows.now)
 
 pub loop-k-preserved : goal.loop-k-preserved
 loop-k-preserved g c =

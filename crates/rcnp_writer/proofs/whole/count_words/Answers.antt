@@ -1,9 +1,8 @@
 -- `whole::count_words` meets its contract. Assumes nothing.
-use Rattle.std.proofs.Common.{arith}
 use Rattle.std.proofs.lemmas.Result.{err_from_is_err_and}
 use Rattle.event.specs.Writing.{rows_in}
 use Rattle.event.proofs.RowsIn.{rows_count}
-use Rattle.rcnp_writer.proofs.Event.{count_refused, count_taken, taken_runs, last_row, sum_wrong, sum_right}
+use Rattle.rcnp_writer.proofs.Event.{count_refused, count_taken, taken_runs, sum_wrong, sum_right}
 use Rattle.rcnp_writer.proofs.whole.count_words.Goals as goal
 
 pub returns-in_err-count : goal.returns-in_err-count

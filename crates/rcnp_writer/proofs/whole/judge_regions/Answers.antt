@@ -2,7 +2,6 @@
 use Rattle.std.proofs.Common.{sym, ◌∙◌, arith}
 use Rattle.std.proofs.lemmas.Result.{err_from_is_err_and}
 use Rattle.event.proofs.RowsIn.{rows_count}
-use Rattle.event.proofs.Turns.{begin}
 use Rattle.rcnp_writer.proofs.Regions.{regions_done, region_refused, region_within, region_taken}
 use Rattle.rcnp_writer.proofs.whole.judge_regions.Goals as goal
 

@@ -2,7 +2,7 @@
 use Rattle.std.proofs.Common.{arith}
 use Rattle.std.proofs.lemmas.Result.{err_from_is_err_and}
 use Rattle.event.proofs.RowsIn.{rows_count}
-use Rattle.rcnp_writer.proofs.Event.{regions_refused, sum_there, last_refused, event_few, event_judged}
+use Rattle.rcnp_writer.proofs.Event.{regions_refused, last_refused, event_few, event_judged}
 use Rattle.rcnp_writer.proofs.whole.judge_rows.Goals as goal
 
 pub returns-in_err-regions : goal.returns-in_err-regions
