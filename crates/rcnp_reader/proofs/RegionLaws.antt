@@ -156,10 +156,6 @@ not_scaler is.TdcLas h e = impossible cc
 not_scaler is.Fera h e = impossible cc
 not_scaler is.Feret h e = impossible cc
 
--- a VDC region, whose words are judged
-pub opens_chamber : {ws : List ℕ} {i k size : ℕ} {b b₁ : List ℕ} → RowStored ws i k vdc size b b₁ → Opens ws i k b b₁ (Ok (Chamber (i + 1 + size)))
-opens_chamber {i = i} {size = size} h = let z : i + 1 + size - (i + 1) ≡ size = omega arith in record { opened = (rw z h.headed, omega arith, rw z h.own) }
-
 -- scalers
 module _ {ws : List ℕ} {i k size : ℕ} {b b₁ : List ℕ} (h : RowStored ws i k scaler size b b₁) where
   abbrev end : ℕ
