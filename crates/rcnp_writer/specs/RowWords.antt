@@ -15,5 +15,5 @@ abbrev pub row_words : Row → List ℕ
 row_words r = cond (of_kind 33 r) (r.datum ∷ []) (cond (of_kind 34 r) (scaler_words r.datum) (field_word r ∷ []))
 
 -- the word of a row that says only this one: of the chamber, or as it is
-abbrev pub run_word : (chamber : Bool) → Row → ℕ
-run_word chamber r = cond chamber (vdc_word (vdc_of r)) r.datum
+abbrev pub single_word : (chamber : Bool) → Row → ℕ
+single_word chamber r = cond chamber (vdc_word (vdc_of r)) r.datum

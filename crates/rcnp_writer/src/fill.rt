@@ -8,7 +8,7 @@ ghost use Rattle.rcnp_writer.specs.RowWords.{row_words};
 ghost use Rattle.rcnp_writer.specs.Parts.{such, of_run, RunAt, Runs, Filled};
 
 use crate::run::{row_there, run_words};
-use crate::word::{field_word, run_word};
+use crate::word::{field_word, single_word};
 use event::kind::Kind;
 use event::rows::{fitting, row_at};
 use event::words::{part_start, store_word};
@@ -58,7 +58,7 @@ fn store_words<const CHAMBER: bool>(
         put_word(
             words,
             at + k,
-            run_word::<CHAMBER>(row_there(rows, first + k)),
+            single_word::<CHAMBER>(row_there(rows, first + k)),
         );
     }
 }

@@ -7,7 +7,7 @@ ghost use Rattle.rcnp_writer.specs.RowWords.{row_words};
 ghost use Rattle.rcnp_writer.specs.Parts.{such, of_run, RunAt, Runs, Summed};
 
 use crate::run::{row_there, run_words};
-use crate::word::{field_word, run_word};
+use crate::word::{field_word, single_word};
 use event::Row;
 use event::kind::Kind;
 use event::rows::row_at;
@@ -34,7 +34,7 @@ fn sum_words<const CHAMBER: bool>(rows: &[u32], first: usize, n: usize) -> usize
 {
     let mut sum: u32 = 0;
     for k in 0..n {
-        let word = run_word::<CHAMBER>(row_there(rows, first + k));
+        let word = single_word::<CHAMBER>(row_there(rows, first + k));
         sum = sum.wrapping_add((word % 0x1_0000_0000) as u32);
     }
     sum as usize

@@ -2,7 +2,7 @@
 ghost use Rattle.std.specs.Prelude.{◌≡◌, if◌then◌else◌};
 ghost use Rattle.rcnp_layout.specs.Layout.{header_word, vdc_word};
 ghost use Rattle.rcnp_layout.specs.Writing.{vdc_of};
-ghost use Rattle.rcnp_writer.specs.RowWords.{field_word, run_word};
+ghost use Rattle.rcnp_writer.specs.RowWords.{field_word, single_word};
 
 use event::Row;
 use event::kind::Kind;
@@ -26,8 +26,8 @@ fn vdc_word(row: Row) -> usize
 }
 
 // The word of a row that follows a region's own: of the chamber, or as it is.
-pub(crate) fn run_word<const CHAMBER: bool>(row: Row) -> usize
-    ensures { result ≡ run_word CHAMBER row }
+pub(crate) fn single_word<const CHAMBER: bool>(row: Row) -> usize
+    ensures { result ≡ single_word CHAMBER row }
 {
     if CHAMBER {
         vdc_word(row)

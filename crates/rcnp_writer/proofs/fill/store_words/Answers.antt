@@ -2,7 +2,7 @@
 use Rattle.std.proofs.Common.{◌+◌, ◌<◌, [], ◌∷◌, length, sym, ap, ◌∙◌, arith}
 use Rattle.event.specs.Writing.{rows_in}
 use Rattle.rcnp_writer.specs.Parts.{such}
-use Rattle.rcnp_writer.specs.RowWords.{run_word}
+use Rattle.rcnp_writer.specs.RowWords.{single_word}
 use Rattle.rcnp_writer.proofs.Filled.{filled_one, filled_run, such_alone}
 use Rattle.rcnp_writer.proofs.fill.store_words.Goals as goal
 
@@ -13,7 +13,7 @@ loop-k-preserved g c =
     let there : c.args.first + k < length (rows_in c.args.rows.now) = omega (arith, below, c.requires.0.inside) in
     let e = c.row_there.ensures in
     let t = rw (← e) at (c.requires.0.each k below) in
-    filled_one k c.loop-k.invariant there e (such_alone _ c.row_there.result t ∙ ap (◌∷ []) (sym c.run_word.ensures)) c.put_word.ensures
+    filled_one k c.loop-k.invariant there e (such_alone _ c.row_there.result t ∙ ap (◌∷ []) (sym c.single_word.ensures)) c.put_word.ensures
 
 pub returns : goal.returns
-returns g c = filled_run (such _) (run_word _) (such_alone _) c.requires.0 c.fitting-most.ensures (omega arith) (omega arith) c.loop-k.invariant
+returns g c = filled_run (such _) (single_word _) (such_alone _) c.requires.0 c.fitting-most.ensures (omega arith) (omega arith) c.loop-k.invariant

@@ -11,7 +11,7 @@ loop-k-preserved g c =
     let there : c.args.first + k < length (rows_in c.args.rows.now) = omega (arith, c.loop-k-test.true, c.requires.inside) in
     let e = c.row_there.ensures in
     let t = rw (← e) at (c.requires.each k c.loop-k-test.true) in
-    summed_one k c.loop-k.invariant there e (such_alone _ c.row_there.result t ∙ ap (◌∷ []) (sym c.run_word-word.ensures)) (wrapped_32 c.loop-k.sum c.run_word-word.result refl refl)
+    summed_one k c.loop-k.invariant there e (such_alone _ c.row_there.result t ∙ ap (◌∷ []) (sym c.single_word-word.ensures)) (wrapped_32 c.loop-k.sum c.single_word-word.result refl refl)
 
 pub returns : goal.returns
 returns g c = let all : c.loop-k.k ≡ c.args.n = omega arith in rw all at c.loop-k.invariant

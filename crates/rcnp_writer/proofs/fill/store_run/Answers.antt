@@ -1,1 +1,0 @@
--- `fill::store_run` meets its contract. Assumes nothing.

@@ -1,1 +1,0 @@
--- `sum::sum_run` meets its contract. Assumes nothing.
