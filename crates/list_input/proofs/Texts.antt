@@ -1,14 +1,13 @@
 -- Text put into the part of a buffer behind what is not written yet.
 -- Assumes nothing.
-use Prim.Native.Nat.{ℕ, suc, ◌+◌, ◌-◌, ◌≤◌, ◌<◌}
-use native.Mathlib.Numerals.{add-one}
+use Prim.Native.Nat.{ℕ, ◌+◌, ◌-◌, ◌≤◌}
 use native.Mathlib.Omega.{arith}
 use mathlib.Core.Path.{◌≡◌, sym, ap, ◌∙◌}
-use mathlib.Core.List.{List, [], ◌∷◌, ◌++◌, append_assoc}
-use lib.ListN.{length, get_or, set, take, drop, length-drop}
-use lib.Seq.{take_at, take-take, take-suc, drop-cons, set_at, get_or-drop, get_or-append-add, sets-eq, drop-drop, length-take-le}
+use mathlib.Core.List.{List, ◌++◌, append_assoc}
+use lib.ListN.{length, take, drop, length-drop}
+use lib.Seq.{sets-eq, drop-drop}
 use borrow.Author.Tests.{le-leb}
-use borrow.Rule.Slice.PartMut.{put_mid, take_put}
+use borrow.Rule.Slice.PartMut.{put_mid}
 use Rattle.event.specs.Outcome.{overlaid}
 use Rattle.event.proofs.WordStores.{part_lent, part_back}
 use Rattle.hex_line.specs.Text.{Placed}

@@ -98,7 +98,13 @@ fn list_line(
 }
 
 // Puts the answer for a line of `count` characters and its rows, and counts it.
-fn put_line(text: &mut [u8], run: Run, count: usize, answer: Result<usize, Refusal>, rows: &[u32]) -> Run
+fn put_line(
+    text: &mut [u8],
+    run: Run,
+    count: usize,
+    answer: Result<usize, Refusal>,
+    rows: &[u32],
+) -> Run
     requires line_inside { LineInside count (length text.old) run }
     requires rows_in_bounds { length rows.now ≤ 4 * most_rows }
     ensures { LineListed answer (rows_in rows.now) (behind run count) run text.old result text.new }

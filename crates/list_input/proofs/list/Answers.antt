@@ -1,9 +1,8 @@
 -- `list` meets its contract. The invariant: turns from the start led here, and the text of the last stands in the buffer. Assumes nothing.
-use Prim.Native.Nat.{ℕ, ◌+◌, ◌-◌}
+use Prim.Native.Nat.{◌+◌, ◌-◌}
 use mathlib.Core.Path.{◌≡◌, refl, sym, ◌∙◌}
 use mathlib.Core.Bool.{Bool, true, false, ◌&&◌, false≢true}
 use native.Mathlib.Omega.{arith}
-use lib.ListN.{length}
 use Rattle.list_input.specs.Turns.{most_turns}
 use Rattle.list_input.proofs.Turns.{told_start, told_turn, told_listed}
 use Rattle.list_input.proofs.list.Goals as goal
