@@ -25,16 +25,6 @@ mark_length least n = go (leb least n)
     go true = refl
     go false = refl
 
--- a buffer stays as long as it is
-pub placed_size : {before after t : List ℕ} {at k : ℕ} → Placed before at t k after → length after ≡ length before
-placed_size {before} {after} {t} {at} {k} p = ap length p.holds ∙ length-sets before at t
-
--- where `count` texts of one length each have room, and n of them stand there, there is room for one more
-pub room_next : {m count : ℕ} (n : ℕ) (f : ℕ → List ℕ) → ((k : ℕ) → length (f k) ≡ m) → n < count
-    → {before now : List ℕ} {at k : ℕ} → at + length (texts_below count f) ≤ length before → Placed before at (texts_below n f) k now → k + length (f n) ≤ length now
-room_next {m} {count} n f l h r p =
-    omega (arith, r, p.ends, placed_size p, l n, texts_length n f l, texts_length count f l, mul-le-mul_right m h, suc-mul n m)
-
 -- one mark more
 pub mark_put : (least n : ℕ) (before : List ℕ) (at channel : ℕ) {x : ℕ} → x ∷ [] ≡ mark least n
     → Placed before (at + channel) (mark least n) (at + (channel + 1)) (set before (at + channel) x)
