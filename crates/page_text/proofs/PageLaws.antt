@@ -1,14 +1,12 @@
 -- How long the texts of a page are, and a mark put behind others. Assumes nothing.
-use Prim.Native.Nat.{ℕ, ◌+◌, ◌-◌, ◌*◌, ◌/◌, ◌%◌, ◌≤◌, ◌<◌}
-use native.Mathlib.Nat.{mul-le-mul_right, suc-mul}
+use Prim.Native.Nat.{ℕ, ◌+◌, ◌-◌, ◌*◌, ◌/◌, ◌%◌}
 use native.Mathlib.Omega.{arith}
-use mathlib.Core.Path.{◌≡◌, refl, ap, ◌∙◌}
+use mathlib.Core.Path.{◌≡◌, refl}
 use mathlib.Core.Bool.{Bool, true, false, cond}
 use mathlib.Core.List.{List, [], ◌∷◌}
 use lib.Dec.{leb}
 use lib.ListN.{length, set, length-append}
-use lib.Seq.{length-sets}
-use Rattle.hex_line.specs.Text.{text, field, texts_below, Placed}
+use Rattle.hex_line.specs.Text.{text, field, Placed}
 use Rattle.hex_line.proofs.TextLaws.{hex_length, field_length, texts_length}
 use Rattle.page_text.specs.Text.{largest, head_text, count_of, least_of, mark, marks_text, row_text, rows_text, picture_text, pictures_text}
 use Rattle.page_text.specs.Text.{eight_text, count_text, counts_text, last_label, last_text, text_of_page}
