@@ -2,7 +2,7 @@
 use Prim.Native.Nat.{ℕ, ◌+◌, ◌≤◌}
 use native.Mathlib.Omega.{arith}
 use mathlib.Core.Path.{◌≡◌, sym, ◌∙◌}
-use mathlib.Core.Bool.{Bool, false≢true}
+use mathlib.Core.Bool.{Bool}
 use mathlib.Core.List.{List}
 use lib.ListN.{take, drop}
 use Rattle.event.specs.declared.StampOrder.{StampOrder}
@@ -36,7 +36,6 @@ list_line-last-requires c =
     record {
       inside = c.requires.inside;
       line_inside = record { some = w.0; within = w.1; lines = k.2; text = omega (arith, c.requires.last_length_in_bounds) };
-      rooms = c.requires.rooms;
     }
 
 pub put_last-requires : goal.put_last-requires
@@ -75,10 +74,3 @@ returns-in-End c =
           (next_known a.run a.input.now a.ended c.requires.next_value.0 c.in-End.is) (omega (arith, c.requires.last_length_in_bounds))
           c.put_last-in-End.ensures.placed;
     }
-
--- a line, or more of the input, does not come next where the listing ends
-pub returns-in-Line : goal.returns-in-Line
-returns-in-Line c = absurd (false≢true (rw c.in-Line.is at c.requires.next_value.1))
-
-pub returns-in-More : goal.returns-in-More
-returns-in-More c = absurd (false≢true (rw c.in-More.is at c.requires.next_value.1))
