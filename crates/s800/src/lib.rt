@@ -2,5 +2,5 @@
 #![tactic(auto)]
 
 pub use s800_format::pad;
-pub use s800_reader::read;
+pub use s800_reader::{check, read};
 pub use s800_writer::write;

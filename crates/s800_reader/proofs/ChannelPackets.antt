@@ -19,16 +19,17 @@ use Rattle.s800_format.proofs.Formats.{trigger_format, flight_format, energies_f
 use Rattle.s800_layout.specs.Event.{energies, trigger, time_of_flight, ion_chamber, hodoscope, vme_adc, energies_tag, tag, trigger_time, flight_time, energy16, adc_energy}
 use Rattle.s800_layout.specs.Layout.{packet_row, channels}
 use Rattle.s800_layout.specs.Reading.{datum, channel_words}
-use Rattle.s800_reader.specs.declared.Opened.{Opened}
-use Rattle.s800_reader.specs.declared.Opened.TheVariants.{Channels, Refused}
 use Rattle.s800_format.specs.Format.{times_of, energies_of}
 use Rattle.s800_reader.specs.Opening.{PacketAt, rest_of, OpensAs}
 use Rattle.s800_reader.proofs.Inner.{inner_length, inner_tag, inner_read}
 use Rattle.s800_reader.proofs.Opening.{opens_refused, opens_channels, last_rows}
+use Rattle.event.specs.Refusal.{refusal}
+use Rattle.std.specs.Prelude.{Ok, Err}
+use Rattle.s800_reader.specs.Opening.{OpenAnswer, channels_left}
 
 module _ {ws : List ℕ} {start n k : ℕ} (s : PacketAt ws start n k) where
   pub flight_opens : {b after : List ℕ} → n ≤ 10 → after ≡ store_rows b k (packet_row (tag time_of_flight) 0 ∷ [])
-      → OpensAs time_of_flight ws start n k b after (Channels (times_of flight_time) (start + 2) (start + n) (k + 1))
+      → OpensAs time_of_flight ws start n k b after (Ok (channels_left (times_of flight_time) (start + 2) (start + n) (k + 1)))
   flight_opens high q =
       let few = s.few in
       let two = s.two in
@@ -45,11 +46,11 @@ module _ {ws : List ℕ} {start n k : ℕ} (s : PacketAt ws start n k) where
     three : suc (start + 2) ≡ start + 3
     three = omega arith
 
-    pub trigger_pattern : {b after : List ℕ} {r : Opened} → n ≤ 7 → 31 < w → r ≡ Refused 10 (start + 2) → OpensAs trigger ws start n k b after r
-    trigger_pattern high h q = opens_refused trigger q (rw (is_between 3 7 n low high, first_word, eq-eqb w w refl, le-ltb w (2 ^ 5) (omega arith)))
+    pub trigger_pattern : {b after : List ℕ} {r : OpenAnswer} → n ≤ 7 → 31 < w → r ≡ Err (refusal 10 (start + 2)) → OpensAs trigger ws start n k b after r
+    trigger_pattern high h q = opens_refused trigger {m = 10} {p = start + 2} q (rw (is_between 3 7 n low high, first_word, eq-eqb w w refl, le-ltb w (2 ^ 5) (omega arith)))
 
     pub trigger_opens : {b after : List ℕ} → n ≤ 7 → w ≤ 31 → after ≡ store_rows b k (packet_row (tag trigger) 0 ∷ row 4 0 0 w ∷ [])
-        → OpensAs trigger ws start n k b after (Channels (times_of trigger_time) (start + 3) (start + n) (k + 2))
+        → OpensAs trigger ws start n k b after (Ok (channels_left (times_of trigger_time) (start + 3) (start + n) (k + 2)))
     trigger_opens high h q =
         let few = s.few in
         opens_channels trigger (packet_row (tag trigger) 0 ∷ row 4 0 0 w ∷ []) (times_of trigger_time) (λ xs. record { pattern = w; times = xs })
@@ -58,11 +59,11 @@ module _ {ws : List ℕ} {start n k : ℕ} (s : PacketAt ws start n k) where
         (then_then (channel_words trigger_time (start + 3) (slice (start + 3) (start + n) ws)) _ _))
         (λ xs. last_rows 5 0 (packet_row (tag trigger) 0 ∷ row 4 0 0 w ∷ []) xs) q
 
-    pub hodoscope_id : {b after : List ℕ} {r : Opened} → n ≤ 19 → 2 < w → r ≡ Refused 8 (start + 2) → OpensAs hodoscope ws start n k b after r
-    hodoscope_id high h q = opens_refused hodoscope q (rw (is_between 3 19 n low high, first_word, eq-eqb w w refl, lt-leb w 2 h))
+    pub hodoscope_id : {b after : List ℕ} {r : OpenAnswer} → n ≤ 19 → 2 < w → r ≡ Err (refusal 8 (start + 2)) → OpensAs hodoscope ws start n k b after r
+    hodoscope_id high h q = opens_refused hodoscope {m = 8} {p = start + 2} q (rw (is_between 3 19 n low high, first_word, eq-eqb w w refl, lt-leb w 2 h))
 
     pub hodoscope_opens : {b after : List ℕ} → n ≤ 19 → w ≤ 2 → (w ≡ 2 → ⊥) → after ≡ store_rows b k (packet_row (tag hodoscope) w ∷ [])
-        → OpensAs hodoscope ws start n k b after (Channels (energies_of (16 * w) energy16) (start + 3) (start + n) (k + 1))
+        → OpensAs hodoscope ws start n k b after (Ok (channels_left (energies_of (16 * w) energy16) (start + 3) (start + n) (k + 1)))
     hodoscope_opens high h z q =
         let few = s.few in
         opens_channels hodoscope (packet_row (tag hodoscope) w ∷ []) (energies_of (16 * w) energy16) (energies w) (omega arith) (energies_format (16 * w)) (omega arith) (omega arith)
@@ -70,11 +71,11 @@ module _ {ws : List ℕ} {start n k : ℕ} (s : PacketAt ws start n k) where
         (then_then (channel_words energy16 (start + 3) (slice (start + 3) (start + n) ws)) _ _))
         (λ xs. last_rows 6 (16 * w) (packet_row (tag hodoscope) w ∷ []) xs) q
 
-    pub adc_id : {b after : List ℕ} {r : Opened} → n ≤ 11 → 3 < w → r ≡ Refused 8 (start + 2) → OpensAs vme_adc ws start n k b after r
-    adc_id high h q = opens_refused vme_adc q (rw (is_between 3 11 n low high, first_word, eq-eqb w w refl, lt-leb w 3 h))
+    pub adc_id : {b after : List ℕ} {r : OpenAnswer} → n ≤ 11 → 3 < w → r ≡ Err (refusal 8 (start + 2)) → OpensAs vme_adc ws start n k b after r
+    adc_id high h q = opens_refused vme_adc {m = 8} {p = start + 2} q (rw (is_between 3 11 n low high, first_word, eq-eqb w w refl, lt-leb w 3 h))
 
     pub adc_opens : {b after : List ℕ} → n ≤ 11 → w ≤ 3 → after ≡ store_rows b k (packet_row (tag vme_adc) w ∷ [])
-        → OpensAs vme_adc ws start n k b after (Channels (energies_of (8 * w) adc_energy) (start + 3) (start + n) (k + 1))
+        → OpensAs vme_adc ws start n k b after (Ok (channels_left (energies_of (8 * w) adc_energy) (start + 3) (start + n) (k + 1)))
     adc_opens high h q =
         let few = s.few in
         opens_channels vme_adc (packet_row (tag vme_adc) w ∷ []) (energies_of (8 * w) adc_energy) (λ xs. record { id = w; energies = xs }) (omega arith)
@@ -85,8 +86,8 @@ module _ {ws : List ℕ} {start n k : ℕ} (s : PacketAt ws start n k) where
 
   -- the inner packet of an ion chamber
   module _ (low : 4 ≤ n) (high : n ≤ 20) {v : ℕ} (e : v ≡ get_or ws (start + 2) 0) where
-    pub chamber_length : {b after : List ℕ} {r : Opened} → (v ≡ n - 2 → ⊥) → r ≡ Refused 9 (start + 2) → OpensAs ion_chamber ws start n k b after r
-    chamber_length z q = opens_refused ion_chamber q (rw (
+    pub chamber_length : {b after : List ℕ} {r : OpenAnswer} → (v ≡ n - 2 → ⊥) → r ≡ Err (refusal 9 (start + 2)) → OpensAs ion_chamber ws start n k b after r
+    chamber_length z q = opens_refused ion_chamber {m = 9} {p = start + 2} q (rw (
       is_between 4 20 n low high,
       inner_length (n - 2) energies_tag (channel_words energy16) (start + 2) (start + n) ws (omega arith) (omega arith) s.inside e z,
     ))
@@ -95,10 +96,10 @@ module _ {ws : List ℕ} {start n k : ℕ} (s : PacketAt ws start n k) where
       next : w ≡ get_or ws (start + 2 + 1) 0
       next = let three : start + 2 + 1 ≡ start + 3 = omega arith in rw three d
 
-      pub chamber_tag : {b after : List ℕ} {r : Opened} → (w ≡ energies_tag → ⊥) → r ≡ Refused 9 (start + 3) → OpensAs ion_chamber ws start n k b after r
+      pub chamber_tag : {b after : List ℕ} {r : OpenAnswer} → (w ≡ energies_tag → ⊥) → r ≡ Err (refusal 9 (start + 3)) → OpensAs ion_chamber ws start n k b after r
       chamber_tag z q =
           let three : start + 2 + 1 ≡ start + 3 = omega arith in
-          opens_refused ion_chamber q (rw (
+          opens_refused ion_chamber {m = 9} {p = start + 3} q (rw (
             is_between 4 20 n low high,
             inner_tag (n - 2) energies_tag (channel_words energy16) (start + 2) (start + n) ws (omega arith) (omega arith) s.inside e l next z,
             three,
@@ -119,7 +120,7 @@ module _ {ws : List ℕ} {start n k : ℕ} (s : PacketAt ws start n k) where
           )
 
       pub chamber_opens : {b after : List ℕ} → w ≡ energies_tag → after ≡ store_rows b k (packet_row (tag ion_chamber) 0 ∷ [])
-          → OpensAs ion_chamber ws start n k b after (Channels (energies_of 0 energy16) (start + 4) (start + n) (k + 1))
+          → OpensAs ion_chamber ws start n k b after (Ok (channels_left (energies_of 0 energy16) (start + 4) (start + n) (k + 1)))
       chamber_opens z q =
           let few = s.few in
           opens_channels ion_chamber (packet_row (tag ion_chamber) 0 ∷ []) (energies_of 0 energy16) (λ xs. xs) (omega arith) (energies_format 0) (omega arith) (omega arith)

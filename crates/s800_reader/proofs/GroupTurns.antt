@@ -10,7 +10,6 @@ use lib.Dec.{ltb, leb, eqb}
 use lib.ListN.{length, get_or, length-append}
 use lib.Seq.{slice, slice_empty}
 use borrow.Author.Tests.{eqb-true, eqb-false, lt-ltb, le-ltb, ltb-true, ltb-false, le-leb, lt-leb, leb-true, leb-false}
-use Rattle.event.specs.declared.Answer.TheVariants.{Refused}
 use Rattle.event.specs.declared.Row.{Row}
 use Rattle.event.specs.Parser.{ok, refuse, then, give, each}
 use Rattle.event.specs.Rows.{store_row}
@@ -20,8 +19,13 @@ use Rattle.event.proofs.Leads.{leads_part, leads_trans, scanned_refuse, scanned_
 use Rattle.event.proofs.Turns.{at_word}
 use Rattle.s800_layout.specs.Layout.{sample_head_row, sample_datum_row, group_rows}
 use Rattle.s800_layout.specs.Reading.{sample_head_of, sample_datum_of}
-use Rattle.s800_reader.specs.Groups.{is_head, follows, word_row, word_rows, groups_in, Judged}
+use Rattle.s800_reader.specs.Groups.{FaultAt, is_head, follows, word_row, word_rows, groups_in, Judged}
 use Rattle.s800_reader.proofs.GroupWords.{Rest, rest_rows, rest, with_head, with_datum, leads_begin, head_again, head_taken, datum_high, datum_falls, datum_taken, end_reached}
+use Rattle.event.specs.Refusal.{refusal}
+use Rattle.event.specs.Refusal.{Answer}
+use Rattle.event.specs.Scanning.{Scanned}
+use Rattle.s800_reader.specs.Channel.{NoMore}
+use Rattle.std.specs.Prelude.{Err}
 
 -- the least connector of a data word after this word
 abbrev pub least_after : ℕ → ℕ
@@ -70,10 +74,10 @@ module _ {ws : List ℕ} {from end place least i : ℕ} (h : Reach ws from end p
       }
 
   -- what is left is refused, and so is all
-  stops : {p : ℕ} → rest least place i (slice i end ws) ≡ refuse 10 p → groups_in ws from end ≡ refuse 10 p
+  stops : {p : ℕ} → rest least place i (slice i end ws) ≡ refuse 10 p → FaultAt ws from end p
   stops {p} e =
       let s = scanned_refuse (rest_rows h.head) (0 + length h.done) (store_rows [] 0 h.done) [] e in
-      refused_scan (each group_rows) (groups_in ws from end) ((h.leads 0 []).leads (Refused 10 p) [] s)
+      refused_scan (each group_rows) (groups_in ws from end) ((h.leads 0 []).leads (Err (refusal 10 p)) [] s)
 
   -- no word is left
   pub ends_well : i ≡ end → (least ≡ 0 → ⊥) → Judged ws from end true
@@ -84,7 +88,7 @@ module _ {ws : List ℕ} {from end place least i : ℕ} (h : Reach ws from end p
       let left : rest least place i (slice i end ws) ≡ ok (record { energies = []; groups = [] }) i [] = rw empty (end_reached least place i n) in
       rw (all, m) ((h.leads k b).leads _ _ (scanned_none (rest_rows h.head) (k + length h.done) (store_rows b k h.done) left refl))
 
-  pub ends_short : i ≡ end → least ≡ 0 → groups_in ws from end ≡ refuse 10 place
+  pub ends_short : i ≡ end → least ≡ 0 → FaultAt ws from end place
   ends_short e n = stops (rw (e, n, slice_empty end ws))
 
   module _ (below : i < end) (long : end ≤ length ws) {w : ℕ} (p : w ≡ get_or ws i 0) where
@@ -107,13 +111,13 @@ module _ {ws : List ℕ} {from end place least i : ℕ} (h : Reach ws from end p
         row : word_rows h.head (w ∷ slice (i + 1) end ws) ≡ sample_datum_row (sample_head_of h.head) (sample_datum_of w) ∷ word_rows h.head (slice (i + 1) end ws)
         row = rw (lt-leb (2 ^ 15) w (omega arith))
 
-    head_stops : 2 ^ 15 ≤ w → least ≡ 0 → groups_in ws from end ≡ refuse 10 place
+    head_stops : 2 ^ 15 ≤ w → least ≡ 0 → FaultAt ws from end place
     head_stops a n = stops (rw (here, n) (head_again i w (slice (i + 1) end ws) a place))
 
-    datum_stops : w < 2 ^ 15 → (w < 2 ^ 12 → w / 2 ^ 10 < least) → groups_in ws from end ≡ refuse 10 i
+    datum_stops : w < 2 ^ 15 → (w < 2 ^ 12 → w / 2 ^ 10 < least) → FaultAt ws from end i
     datum_stops a f = go (leb (2 ^ 12) w) refl
       where
-        go : (b : Bool) → leb (2 ^ 12) w ≡ b → groups_in ws from end ≡ refuse 10 i
+        go : (b : Bool) → leb (2 ^ 12) w ≡ b → FaultAt ws from end i
         go true e = stops (rw here (datum_high least place i w (slice (i + 1) end ws) a (leb-true (2 ^ 12) w e)))
         go false e = let l = leb-false (2 ^ 12) w e in stops (rw here (datum_falls least place i w (slice (i + 1) end ws) a l (f l)))
 
@@ -168,11 +172,11 @@ module _ (before : ℕ) {ws : List ℕ} {from end place i : ℕ} (h : Reach ws f
           head_next h below long p l f (λ z. omega (arith, least_low before b, z))
       go false e = let l = leb-false (2 ^ 15) w e in datum l (ltb w (2 ^ 12)) _ refl refl (sym (follows_datum before w l) ∙ t)
 
-  pub breaks : follows before w ≡ false → groups_in ws from end ≡ refuse 10 (cond (is_head w) place i)
+  pub breaks : follows before w ≡ false → FaultAt ws from end (cond (is_head w) place i)
   breaks t = go (leb (2 ^ 15) w) refl
     where
       datum : w < 2 ^ 15 → (a b : Bool) → ltb w (2 ^ 12) ≡ a → (leb (2 ^ 15) before || ltb (before / 2 ^ 10) (w / 2 ^ 10)) ≡ b → a && b ≡ false
-          → groups_in ws from end ≡ refuse 10 i
+          → FaultAt ws from end i
       datum l a true x y z = datum_stops h below long p l (λ s. let q : true ≡ a = sym (lt-ltb w (2 ^ 12) s) ∙ x in impossible cc)
       datum l a false x y z = datum_stops h below long p l (λ s. falls before (w / 2 ^ 10) y)
 
@@ -180,7 +184,7 @@ module _ (before : ℕ) {ws : List ℕ} {from end place i : ℕ} (h : Reach ws f
       again true e x = rw e
       again false e x = let l = leb-false (2 ^ 15) before e in impossible (omega (arith, ltb-false before (2 ^ 15) x))
 
-      go : (a : Bool) → leb (2 ^ 15) w ≡ a → groups_in ws from end ≡ refuse 10 (cond a place i)
+      go : (a : Bool) → leb (2 ^ 15) w ≡ a → FaultAt ws from end (cond a place i)
       go true e = let l = leb-true (2 ^ 15) w e in head_stops h below long p l (again (leb (2 ^ 15) before) refl (sym (follows_head before w l) ∙ t))
       go false e = let l = leb-false (2 ^ 15) w e in datum l (ltb w (2 ^ 12)) _ refl refl (sym (follows_datum before w l) ∙ t)
 
@@ -195,16 +199,20 @@ module _ (before : ℕ) {ws : List ℕ} {from end place i : ℕ} (h : Reach ws f
       let q : cond (is_head w) i place ≡ head' = rw (lt-leb (2 ^ 15) w a) (sym e) in
       subst (λ (x : ℕ). Reach ws from end x (least_after w) (i + 1)) q (goes_on t)
 
-  pub datum_breaks : follows before w ≡ false → w < 2 ^ 15 → groups_in ws from end ≡ refuse 10 i
-  datum_breaks t a = breaks t ∙ rw (lt-leb (2 ^ 15) w a)
+  pub datum_breaks : follows before w ≡ false → w < 2 ^ 15 → FaultAt ws from end i
+  datum_breaks t a =
+      let q : cond (is_head w) place i ≡ i = rw (lt-leb (2 ^ 15) w a) in
+      subst (λ (x : ℕ). FaultAt ws from end x) q (breaks t)
 
-  pub head_breaks : follows before w ≡ false → 2 ^ 15 ≤ w → groups_in ws from end ≡ refuse 10 place
-  head_breaks t a = breaks t ∙ rw (le-leb (2 ^ 15) w a)
+  pub head_breaks : follows before w ≡ false → 2 ^ 15 ≤ w → FaultAt ws from end place
+  head_breaks t a =
+      let q : cond (is_head w) place i ≡ place = rw (le-leb (2 ^ 15) w a) in
+      subst (λ (x : ℕ). FaultAt ws from end x) q (breaks t)
 
 -- The loop over all words: those up to i are groups so far, or all are refused.
 abbrev pub Going : List ℕ → (from end i : ℕ) → Bool → Type 0
 Going ws from end i true = (p : ℕ) × Reach ws from end p (least_after (get_or ws (i - 1) 0)) i
-Going ws from end i false = (p : ℕ) × (groups_in ws from end ≡ refuse 10 p)
+Going ws from end i false = (p : ℕ) × FaultAt ws from end p
 
 module _ (ws : List ℕ) (from end : ℕ) (long : end ≤ length ws) where
   pub going_begin : {w : ℕ} → from < end → w ≡ get_or ws from 0 → w < 2 ^ 16 → Going ws from end (from + 1) (leb (2 ^ 15) w)
@@ -237,9 +245,14 @@ module _ (ws : List ℕ) (from end : ℕ) (long : end ≤ length ws) where
       go false t = (_, ends_short g.1 e (rw (e, ← p, le-leb (2 ^ 15) w (ltb-false w (2 ^ 15) t))))
 
 -- the loop that looks for the fault has come to the end: it is a head with no data word after it
-pub head_last : {ws : List ℕ} {from end place least i : ℕ} → Reach ws from end place least i → i ≡ end → Judged ws from end false → groups_in ws from end ≡ refuse 10 place
+pub head_last : {ws : List ℕ} {from end place least i : ℕ} → Reach ws from end place least i → i ≡ end → Judged ws from end false → FaultAt ws from end place
 head_last {ws} {from} {end} {place} {least} h e j = go (eqb least 0) refl
   where
-    go : (b : Bool) → eqb least 0 ≡ b → groups_in ws from end ≡ refuse 10 place
+    go : (b : Bool) → eqb least 0 ≡ b → FaultAt ws from end place
     go true z = ends_short h e (eqb-true least 0 z)
-    go false z = let s = (rw j.1 at (ends_well h e (eqb-false least 0 z) 0 [])).answered in impossible cc
+    go false z = let s = (rw j.1.refused at (ends_well h e (eqb-false least 0 z) 0 [])).answered in impossible cc
+
+-- groups that are refused
+pub samples_refused : (ws : List ℕ) (from end : ℕ) {place k : ℕ} {b after : List ℕ} {a : Answer} → FaultAt ws from end place → a ≡ Err (refusal 10 place)
+    → Scanned (each group_rows) (groups_in ws from end) k b a after × NoMore end a
+samples_refused ws from end {place} {k} {b} {after} t e = rw (e, t.named) (scanned_refuse (each group_rows) {n = t.number} {p = t.place} k b after t.refused, tt)

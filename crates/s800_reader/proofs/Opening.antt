@@ -2,66 +2,47 @@
 -- Assumes nothing.
 use Prim.Native.Nat.{ℕ, ◌+◌, ◌^◌, ◌≤◌, ◌<◌}
 use native.Mathlib.Omega.{arith}
-use mathlib.Core.Path.{◌≡◌, refl, ap, sym, ◌∙◌}
-use mathlib.Core.Bool.{Bool, true, false, not}
+use mathlib.Core.Path.{◌≡◌, refl, ap, sym}
+use mathlib.Core.Bool.{false}
 use mathlib.Core.List.{List, [], ◌∷◌, ◌++◌, map}
-use lib.Dec.{leb}
 use lib.ListN.{length}
 use lib.Seq.{slice, slice_empty}
-use borrow.Author.Tests.{leb-true}
-use Rattle.event.specs.declared.Answer.TheVariants.{Accepted}
 use Rattle.event.specs.declared.Row.{Row}
 use Rattle.event.specs.Parser.{refuse, then, give, each}
-use Rattle.event.specs.Words.{between}
 use Rattle.event.specs.Scanning.{store_rows, Scanned}
 use Rattle.event.proofs.Elements.{each_map}
-use Rattle.event.proofs.Leads.{leads_part, leads_done}
-use Rattle.event.proofs.Impossible.{impossible}
+use Rattle.event.proofs.Leads.{leads_part, leads_done, refused_as}
 use Rattle.s800_layout.specs.Event.{Datum, Form, Content, ChannelFormat, energy16}
 use Rattle.s800_layout.specs.Layout.{datum_row, packet_rows}
 use Rattle.s800_layout.specs.Reading.{allowed_length, channel_words}
 use Rattle.s800_format.specs.declared.Format.{Format}
-use Rattle.s800_reader.specs.declared.Opened.{Opened}
-use Rattle.s800_reader.specs.declared.Opened.TheVariants.{Channels, Refused}
 use Rattle.s800_format.specs.Format.{format_of, energies_of}
+use Rattle.s800_reader.specs.declared.packet.Packet.{Packet}
 use Rattle.s800_reader.specs.Channel.{channel_rows}
 use Rattle.s800_reader.specs.Opening.{PacketAt, rest_of, OpensAs}
+use Rattle.event.specs.Refusal.{refusal}
+use Rattle.std.specs.Prelude.{Ok, Err}
+use Rattle.s800_reader.specs.Opening.{OpenAnswer, channels_left}
 
--- a length within its bounds, or not
-module _ {ws : List ℕ} {start n k : ℕ} (s : PacketAt ws start n k) (low high : ℕ) (b : Bool) (e : b ≡ between low high n) where
-  pub inside : not b ≡ false → (low ≤ n) × (n ≤ high)
-  inside h = go (leb low n) refl (leb n high) refl
-    where
-      never : b ≡ false → (low ≤ n) × (n ≤ high)
-      never f = let z : true ≡ false = sym (ap not f) ∙ h in impossible cc
-
-      go : (x : Bool) → leb low n ≡ x → (y : Bool) → leb n high ≡ y → (low ≤ n) × (n ≤ high)
-      go true p true q = (leb-true low n p, leb-true n high q)
-      go true p false q = never (e ∙ rw (p, q))
-      go false p y q = never (e ∙ rw p)
-
-  pub outside : not b ≡ true → between low high n ≡ false
-  outside h = sym e ∙ go b h
-    where
-      go : (x : Bool) → not x ≡ true → x ≡ false
-      go true q = sym q
-      go false q = refl
+-- what the code's packet says of itself
+pub packet_at : (p : Packet) → PacketAt p.words.now p.start p.size p.count
+packet_at p = record { two = p.two; inside = p.inside; few = p.few }
 
 -- refusal m at place p
-pub opens_refused : (f : Form) {ws : List ℕ} {start n k : ℕ} {b after : List ℕ} {r : Opened} {m p : ℕ} → r ≡ Refused m p → rest_of f ws start n ≡ refuse m p
+pub opens_refused : (f : Form) {ws : List ℕ} {start n k : ℕ} {b after : List ℕ} {r : OpenAnswer} {m p : ℕ} → r ≡ Err (refusal m p) → rest_of f ws start n ≡ refuse m p
     → OpensAs f ws start n k b after r
-opens_refused f e h = rw e (record { opens = h })
+opens_refused f {m = m} {p = p} e h = rw e (record { opens = refused_as {n = m} {p = p} h })
 
-pub wrong_length : (f : Form) {ws : List ℕ} {start n k : ℕ} {b after : List ℕ} {r : Opened} → allowed_length f n ≡ false → r ≡ Refused 7 start
+pub wrong_length : (f : Form) {ws : List ℕ} {start n k : ℕ} {b after : List ℕ} {r : OpenAnswer} → allowed_length f n ≡ false → r ≡ Err (refusal 7 start)
     → OpensAs f ws start n k b after r
-wrong_length f h e = opens_refused f e (rw h)
+wrong_length f {start = start} h e = opens_refused f {m = 7} {p = start} e (rw h)
 
 -- the rows `before` are stored, and channel words are left
 pub opens_channels : (f : Form) {ws : List ℕ} {start n k : ℕ} {b after : List ℕ} (before : List Row) (m : Format) {q : ChannelFormat} (g : List Datum → Content f) {at : ℕ}
     → m.base < 2 ^ 16 → format_of m ≡ q → at ≤ start + n → k + length before ≤ at
     → rest_of f ws start n ≡ then (λ xs. give (record { form = f; content = g xs })) (channel_words q at (slice at (start + n) ws))
     → ((xs : List Datum) → packet_rows (record { form = f; content = g xs }) ≡ before ++ each (channel_rows m) xs) → after ≡ store_rows b k before
-    → OpensAs f ws start n k b after (Channels m at (start + n) (k + length before))
+    → OpensAs f ws start n k b after (Ok (channels_left m at (start + n) (k + length before)))
 opens_channels f {ws} {start} {n} {k} {b} before m {q} g {at} low same within few e rows s =
     let i : rest_of f ws start n ≡ then (λ xs. give (record { form = f; content = g xs })) (channel_words (format_of m) at (slice at (start + n) ws)) = rw same e in
     record {
@@ -77,8 +58,8 @@ opens_channels f {ws} {start} {n} {k} {b} before m {q} g {at} low same within fe
     }
 
 -- a packet that was scanned whole: no channel words are left
-pub opens_complete : (f : Form) {ws : List ℕ} {start n k k' : ℕ} {b after : List ℕ} {r : Opened} → Scanned packet_rows (rest_of f ws start n) k b (Accepted k') after
-    → k' ≤ start + n → r ≡ Channels (energies_of 0 energy16) (start + n) (start + n) k' → OpensAs f ws start n k b after r
+pub opens_complete : (f : Form) {ws : List ℕ} {start n k k' : ℕ} {b after : List ℕ} {r : OpenAnswer} → Scanned packet_rows (rest_of f ws start n) k b (Ok k') after
+    → k' ≤ start + n → r ≡ Ok (channels_left (energies_of 0 energy16) (start + n) (start + n) k') → OpensAs f ws start n k b after r
 opens_complete f {ws} {start} {n} {k} {k'} {b} {after} s few q = rw q (record {
   opens = (
     refl,

@@ -10,7 +10,7 @@ use lib.ListN.{length, get_or, drop}
 use lib.Seq.{slice, length-slice}
 use borrow.Author.Tests.{eq-eqb}
 use Rattle.event.specs.Parser.{Result, ok, refuse, then, give, ended, filled}
-use Rattle.event.proofs.Leads.{leads_trans}
+use Rattle.event.proofs.Leads.{leads_trans, refused_as}
 use Rattle.event.proofs.Loops.{leads_filled}
 use Rattle.event.proofs.Impossible.{impossible}
 use Rattle.s800_layout.specs.Event.{Form, Content, Packet, tag, form_of}
@@ -18,10 +18,11 @@ use Rattle.s800_layout.specs.Layout.{packet_rows}
 use Rattle.s800_layout.specs.Reading.{allowed_length, content, packet_content, form_word, packet}
 use Rattle.s800_layout.proofs.Lengths.{form_back}
 use Rattle.s800_layout.proofs.Refusals.{content_ends}
-use Rattle.s800_reader.specs.declared.Opened.{Opened}
-use Rattle.s800_reader.specs.declared.Opened.TheVariants.{Channels, Refused}
 use Rattle.s800_reader.specs.Opening.{rest_of, OpensAs, OpensPacket}
 use Rattle.s800_reader.proofs.Extent.{too_short, too_long, body}
+use Rattle.event.specs.Refusal.{refusal}
+use Rattle.std.specs.Prelude.{Ok, Err}
+use Rattle.s800_reader.specs.Opening.{OpenAnswer}
 
 -- what a packet holds fills it
 rest_ends : (f : Form) (ws : List ℕ) (start n : ℕ) → start + n ≤ length ws → 2 ≤ n → (q : Packet) (j : ℕ) (r : List ℕ) → rest_of f ws start n ≡ ok q j r → T (ended r)
@@ -41,25 +42,25 @@ rest_ends f ws start n long two q j r e = go (allowed_length f n) refl e
     go false a h = impossible cc
 
 module _ (ws : List ℕ) (start : ℕ) {n : ℕ} (below : start < length ws) (d₀ : n ≡ get_or ws start 0) where
-  pub packet_short : {k : ℕ} {b after : List ℕ} {r : Opened} → n < 2 → r ≡ Refused 5 start → OpensPacket ws start k b after r
-  packet_short h q = rw q (record { opens = too_short form_word allowed_length packet_content ws start below d₀ h; ends = tt })
+  pub packet_short : {k : ℕ} {b after : List ℕ} {r : OpenAnswer} → n < 2 → r ≡ Err (refusal 5 start) → OpensPacket ws start k b after r
+  packet_short h q = rw q (record { opens = refused_as {n = 5} {p = start} (too_short form_word allowed_length packet_content ws start below d₀ h); ends = tt })
 
   module _ (two : 2 ≤ n) where
-    pub packet_long : {k : ℕ} {b after : List ℕ} {r : Opened} → length ws - start < n → r ≡ Refused 5 start → OpensPacket ws start k b after r
-    packet_long h q = rw q (record { opens = too_long form_word allowed_length packet_content ws start below d₀ two h; ends = tt })
+    pub packet_long : {k : ℕ} {b after : List ℕ} {r : OpenAnswer} → length ws - start < n → r ≡ Err (refusal 5 start) → OpensPacket ws start k b after r
+    packet_long h q = rw q (record { opens = refused_as {n = 5} {p = start} (too_long form_word allowed_length packet_content ws start below d₀ two h); ends = tt })
 
     module _ (inside : n ≤ length ws - start) {t : ℕ} (d : t ≡ get_or ws (start + 1) 0) where
-      pub packet_unknown : {k : ℕ} {b after : List ℕ} {r : Opened} → eqb t (tag (form_of t)) ≡ false → r ≡ Refused 6 (start + 1) → OpensPacket ws start k b after r
-      packet_unknown z q = rw q (record { opens = body form_word allowed_length packet_content ws start below d₀ two inside d ∙ rw z; ends = tt })
+      pub packet_unknown : {k : ℕ} {b after : List ℕ} {r : OpenAnswer} → eqb t (tag (form_of t)) ≡ false → r ≡ Err (refusal 6 (start + 1)) → OpensPacket ws start k b after r
+      packet_unknown z q = rw q (record { opens = refused_as {n = 6} {p = start + 1} (body form_word allowed_length packet_content ws start below d₀ two inside d ∙ rw z); ends = tt })
 
       known : (f : Form) → t ≡ tag f → packet start (drop start ws) ≡ filled (slice (start + n) (length ws) ws) (rest_of f ws start n)
       known f z =
           let next : suc (start + 1) ≡ start + 2 = omega arith in
           body form_word allowed_length packet_content ws start below d₀ two inside d ∙ rw (z, form_back f, eq-eqb (tag f) (tag f) refl, next)
 
-      pub packet_known : (f : Form) {k : ℕ} {b after : List ℕ} (r : Opened) → t ≡ tag f → OpensAs f ws start n k b after r → OpensPacket ws start k b after r
-      packet_known f (Refused m p) z o = record { opens = known f z ∙ rw o.opens; ends = tt }
-      packet_known f {k} {b} (Channels m at e k') z o =
+      pub packet_known : (f : Form) {k : ℕ} {b after : List ℕ} (r : OpenAnswer) → t ≡ tag f → OpensAs f ws start n k b after r → OpensPacket ws start k b after r
+      packet_known f (Err r) z o = record { opens = record { number = o.opens.number; place = o.opens.place; refused = known f z ∙ rw o.opens.refused; named = o.opens.named }; ends = tt }
+      packet_known f {k} {b} (Ok c) z o =
           let l = o.opens.1 in
           let q = o.opens.0 in
           record {

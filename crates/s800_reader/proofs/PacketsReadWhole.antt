@@ -10,34 +10,44 @@ use lib.Dec.{eqb, leb}
 use lib.ListN.{length, get_or}
 use lib.Seq.{slice, slice_empty}
 use borrow.Author.Tests.{eq-eqb, ne_eqb, le-leb, lt-leb}
-use Rattle.event.specs.declared.Answer.{Answer}
-use Rattle.event.specs.declared.Answer.TheVariants.{Accepted, Refused}
 use Rattle.event.specs.Parser.{Result, ok, refuse, Parser, then, ◌>>=◌, give, ended, filled, many, several, each, alone}
 use Rattle.event.specs.Rows.{row, store_row}
-use Rattle.event.specs.Scanning.{store_rows, Scanned, Leads}
+use Rattle.event.specs.Scanning.{store_rows, RefusedAs, Scanned, Leads}
 use Rattle.event.proofs.Elements.{each_map}
 use Rattle.event.proofs.Ends.{ends_many}
 use Rattle.event.proofs.Leads.{leads_part, then_then, refused_scan, scanned_refuse, store_append}
 use Rattle.event.proofs.Loops.{at_end}
 use Rattle.event.proofs.Impossible.{impossible}
-use Rattle.s800_layout.specs.Event.{Group, Samples, Crdc, Opaque, Form, scintillator, crdc, opaque, Packet, samples_tag, anode_tag, tag}
+use Rattle.s800_format.specs.Format.{energies_of}
+use Rattle.event.specs.declared.refusal.Refusal.{Refusal}
+use Rattle.s800_layout.specs.Event.{energy16, Group, Samples, Crdc, Opaque, Form, scintillator, crdc, opaque, Packet, samples_tag, anode_tag, tag}
 use Rattle.s800_layout.specs.Layout.{pair_rows, pair_channels, group_rows, packet_row, packet_rows}
 use Rattle.s800_layout.specs.Reading.{even, allowed_length, inner, whole, pair, group, samples, anode}
 use Rattle.s800_layout.proofs.Words.{codes_groups}
-use Rattle.s800_reader.specs.declared.Opened.{Opened}
-use Rattle.s800_reader.specs.declared.Opened.TheVariants as opened
 use Rattle.s800_reader.specs.Channel.{opaque_rows, anode_rows, NoMore}
-use Rattle.s800_reader.specs.Opening.{PacketAt, CrdcFront, crdc_front_rows, opened_of, rest_of, OpensAs}
+use Rattle.s800_reader.specs.Opening.{PacketAt, CrdcFront, crdc_front_rows, rest_of, OpensAs}
 use Rattle.s800_reader.proofs.Inner.{inner_length, inner_tag, inner_read}
 use Rattle.s800_reader.proofs.Runs.{read_whole}
 use Rattle.s800_reader.proofs.ChannelPackets.{first_word}
 use Rattle.s800_reader.proofs.Opening.{opens_refused, opens_complete}
+use Rattle.event.specs.Refusal.{Answer, refusal}
+use Rattle.std.specs.Prelude.{Ok, Err}
+use Rattle.s800_reader.specs.Opening.{channels_left}
+use Rattle.s800_reader.specs.Opening.{OpenAnswer}
 
--- a packet whose content was scanned whole, or refused
-opens_answer : (f : Form) {ws : List ℕ} {start n k : ℕ} {b after : List ℕ} (a : Answer) {r : Opened} → Scanned packet_rows (rest_of f ws start n) k b a after
-    → NoMore (start + n) a → r ≡ opened_of (start + n) a → OpensAs f ws start n k b after r
-opens_answer f (Accepted k') s few e = opens_complete f s few e
-opens_answer f {ws} {start} {n} (Refused m p) s few e = opens_refused f e (refused_scan packet_rows (rest_of f ws start n) s)
+-- a packet whose content was refused
+opens_failed : (f : Form) {ws : List ℕ} {start n k : ℕ} {b after : List ℕ} {r : Refusal} → Scanned packet_rows (rest_of f ws start n) k b (Err r) after → OpensAs f ws start n k b after (Err r)
+opens_failed f {ws} {start} {n} s = record { opens = refused_scan packet_rows (rest_of f ws start n) s }
+
+-- or scanned whole
+abbrev pub OpenedWhole : ℕ → Answer → OpenAnswer → Type 0
+OpenedWhole end (Ok k) r = r ≡ Ok (channels_left (energies_of 0 energy16) end end k)
+OpenedWhole end (Err e) r = r ≡ Err e
+
+opens_answer : (f : Form) {ws : List ℕ} {start n k : ℕ} {b after : List ℕ} (a : Answer) {r : OpenAnswer} → Scanned packet_rows (rest_of f ws start n) k b a after
+    → NoMore (start + n) a → OpenedWhole (start + n) a r → OpensAs f ws start n k b after r
+opens_answer f (Ok k') s few e = opens_complete f s few e
+opens_answer f (Err r) s few e = rw e (opens_failed f s)
 
 odd : (n : ℕ) → n % 2 ≡ 1 → eqb (n % 2) 0 ≡ false
 odd n h = ne_eqb (n % 2) 0 (λ e. omega arith)
@@ -55,9 +65,9 @@ long_scintillator n h = go (even n) (leb 2 n)
     go false b = refl
 
 module _ {ws : List ℕ} {start n k : ℕ} (s : PacketAt ws start n k) where
-  pub scintillator_opens : {b b₁ after : List ℕ} (a : Answer) {r : Opened} → (n % 2 ≡ 1 → ⊥) → n ≤ 14 → b₁ ≡ store_rows b k (packet_row (tag scintillator) 0 ∷ [])
+  pub scintillator_opens : {b b₁ after : List ℕ} (a : Answer) {r : OpenAnswer} → (n % 2 ≡ 1 → ⊥) → n ≤ 14 → b₁ ≡ store_rows b k (packet_row (tag scintillator) 0 ∷ [])
       → Scanned (each pair_rows) (many pair pair_channels ended [] (start + 2) (slice (start + 2) (start + n) ws)) (k + 1) b₁ a after
-      → NoMore (start + n) a → r ≡ opened_of (start + n) a → OpensAs scintillator ws start n k b after r
+      → NoMore (start + n) a → OpenedWhole (start + n) a r → OpensAs scintillator ws start n k b after r
   scintillator_opens {b} {b₁} {after} a z high q t few e =
       let two = s.two in
       let rest = many pair pair_channels ended [] (start + 2) (slice (start + 2) (start + n) ws) in
@@ -66,30 +76,30 @@ module _ {ws : List ℕ} {start n k : ℕ} (s : PacketAt ws start n k) where
       opens_answer scintillator a (rw (m, le-leb 2 n two, le-leb n 14 high) (l.leads a after (rw q at t))) few e
 
   -- opaque words
-  pub opaque_opens : (o : Opaque) {b b₁ after : List ℕ} {t total : ℕ} {r : Opened} → t ≡ tag (opaque o) → b₁ ≡ store_rows b k (packet_row t 0 ∷ [])
-      → Scanned (each opaque_rows) (several whole ended (start + 2) (slice (start + 2) (start + n) ws)) (k + 1) b₁ (Accepted total) after → total ≤ start + n
-      → r ≡ opened_of (start + n) (Accepted total) → OpensAs (opaque o) ws start n k b after r
+  pub opaque_opens : (o : Opaque) {b b₁ after : List ℕ} {t total : ℕ} {r : OpenAnswer} → t ≡ tag (opaque o) → b₁ ≡ store_rows b k (packet_row t 0 ∷ [])
+      → Scanned (each opaque_rows) (several whole ended (start + 2) (slice (start + 2) (start + n) ws)) (k + 1) b₁ (Ok total) after → total ≤ start + n
+      → r ≡ Ok (channels_left (energies_of 0 energy16) (start + n) (start + n) total) → OpensAs (opaque o) ws start n k b after r
   opaque_opens o {b} {b₁} {after} {t} {total} p q u few e =
       let two = s.two in
       let rest = several whole ended (start + 2) (slice (start + 2) (start + n) ws) in
       let l = leads_part (packet_row (tag (opaque o)) 0 ∷ []) (each opaque_rows) rest (λ xs. record { form = opaque o; content = xs }) packet_rows k b
       (λ xs. ap (packet_row (tag (opaque o)) 0 ∷◌) (sym (each_map (row 11 0 0) xs))) in
-      opens_answer (opaque o) (Accepted total) (rw (le-leb 2 n two) (l.leads (Accepted total) after (rw (q, p) at u))) few e
+      opens_answer (opaque o) (Ok total) (rw (le-leb 2 n two) (l.leads (Ok total) after (rw (q, p) at u))) few e
 
 -- the anode's inner packet
 module _ (ws : List ℕ) (i k : ℕ) (b : List ℕ) (long : i + 4 ≤ length ws) {v : ℕ} (e : v ≡ get_or ws i 0) where
   abbrev AnodeScanned : Answer → List ℕ → Type 0
   AnodeScanned = Scanned anode_rows (inner 4 anode_tag anode i (slice i (i + 4) ws)) k b
 
-  pub anode_length : {a : Answer} (after : List ℕ) → (v ≡ 4 → ⊥) → a ≡ Refused 9 i → AnodeScanned a after × NoMore (i + 4) a
-  anode_length after z q = rw q (scanned_refuse anode_rows k b after (inner_length 4 anode_tag anode i (i + 4) ws (omega arith) (omega arith) long e z), tt)
+  pub anode_length : {a : Answer} (after : List ℕ) → (v ≡ 4 → ⊥) → a ≡ Err (refusal 9 i) → AnodeScanned a after × NoMore (i + 4) a
+  anode_length after z q = rw q (scanned_refuse anode_rows {n = 9} {p = i} k b after (inner_length 4 anode_tag anode i (i + 4) ws (omega arith) (omega arith) long e z), tt)
 
   module _ (l : v ≡ 4) {w : ℕ} (d : w ≡ get_or ws (i + 1) 0) where
-    pub anode_tag_lem : {a : Answer} (after : List ℕ) → (w ≡ anode_tag → ⊥) → a ≡ Refused 9 (i + 1) → AnodeScanned a after × NoMore (i + 4) a
-    anode_tag_lem after z q = rw q (scanned_refuse anode_rows k b after (inner_tag 4 anode_tag anode i (i + 4) ws (omega arith) (omega arith) long e l d z), tt)
+    pub anode_tag_lem : {a : Answer} (after : List ℕ) → (w ≡ anode_tag → ⊥) → a ≡ Err (refusal 9 (i + 1)) → AnodeScanned a after × NoMore (i + 4) a
+    anode_tag_lem after z q = rw q (scanned_refuse anode_rows {n = 9} {p = i + 1} k b after (inner_tag 4 anode_tag anode i (i + 4) ws (omega arith) (omega arith) long e l d z), tt)
 
     pub anode_read : {x y : ℕ} {after : List ℕ} → w ≡ anode_tag → x ≡ get_or ws (i + 2) 0 → x < 2 ^ 16 → y ≡ get_or ws (i + 3) 0 → y < 2 ^ 16
-        → k ≤ i → after ≡ store_rows b k (row 9 0 x y ∷ []) → AnodeScanned (Accepted (k + 1)) after × NoMore (i + 4) (Accepted (k + 1))
+        → k ≤ i → after ≡ store_rows b k (row 9 0 x y ∷ []) → AnodeScanned (Ok (k + 1)) after × NoMore (i + 4) (Ok (k + 1))
     anode_read {x} {y} {after} z p f q g few s =
         let next : i + 2 + 1 ≡ i + 3 = omega arith in
         let end : i + 3 + 1 ≡ i + 4 = omega arith in
@@ -128,8 +138,8 @@ module _ {ws : List ℕ} {start n k : ℕ} (s : PacketAt ws start n k) (least : 
   allowed : allowed_length crdc n ≡ true
   allowed = le-leb 10 n least
 
-  pub crdc_id : {b after : List ℕ} {r : Opened} → 1 < id → r ≡ opened.Refused 8 (start + 2) → OpensAs crdc ws start n k b after r
-  crdc_id h q = opens_refused crdc q (rw (allowed, first_word s (omega arith) a, eq-eqb id id refl, lt-leb id 1 h))
+  pub crdc_id : {b after : List ℕ} {r : OpenAnswer} → 1 < id → r ≡ Err (refusal 8 (start + 2)) → OpensAs crdc ws start n k b after r
+  crdc_id h q = opens_refused crdc {m = 8} {p = start + 2} q (rw (allowed, first_word s (omega arith) a, eq-eqb id id refl, lt-leb id 1 h))
 
   module _ (i : id ≤ 1) {v : ℕ} (c : v ≡ get_or ws (start + 3) 0) where
     abbrev samples_part : Result ℕ Samples
@@ -140,15 +150,15 @@ module _ {ws : List ℕ} {start n k : ℕ} (s : PacketAt ws start n k) (least : 
         let three : suc (start + 2) ≡ start + 3 = omega arith in
         rw (allowed, first_word s (omega arith) a, eq-eqb id id refl, le-leb id 1 i, three)
 
-    pub crdc_length : {b after : List ℕ} {r : Opened} → (v ≡ n - 7 → ⊥) → r ≡ opened.Refused 9 (start + 3) → OpensAs crdc ws start n k b after r
-    crdc_length z q = opens_refused crdc q (id_read ∙ rw (inner_length (n - 7) samples_tag samples (start + 3) (start + n) ws (omega arith) (omega arith) s.inside c z))
+    pub crdc_length : {b after : List ℕ} {r : OpenAnswer} → (v ≡ n - 7 → ⊥) → r ≡ Err (refusal 9 (start + 3)) → OpensAs crdc ws start n k b after r
+    crdc_length z q = opens_refused crdc {m = 9} {p = start + 3} q (id_read ∙ rw (inner_length (n - 7) samples_tag samples (start + 3) (start + n) ws (omega arith) (omega arith) s.inside c z))
 
     module _ (l : v ≡ n - 7) {w : ℕ} (d : w ≡ get_or ws (start + 4) 0) where
       four : start + 3 + 1 ≡ start + 4
       four = omega arith
 
-      pub crdc_tag : {b after : List ℕ} {r : Opened} → (w ≡ samples_tag → ⊥) → r ≡ opened.Refused 9 (start + 4) → OpensAs crdc ws start n k b after r
-      crdc_tag z q = opens_refused crdc q
+      pub crdc_tag : {b after : List ℕ} {r : OpenAnswer} → (w ≡ samples_tag → ⊥) → r ≡ Err (refusal 9 (start + 4)) → OpensAs crdc ws start n k b after r
+      crdc_tag z q = opens_refused crdc {m = 9} {p = start + 4} q
           (id_read ∙ rw (inner_tag (n - 7) samples_tag samples (start + 3) (start + n) ws (omega arith) (omega arith) s.inside c l (rw four d) z, four))
 
       front_read : w ≡ samples_tag → get_or ws (start + 5) 0 < 2 ^ 16 → rest_of crdc ws start n ≡ after_front ws start n id
@@ -172,11 +182,11 @@ module _ {ws : List ℕ} {start n : ℕ} (h : CrdcFront ws start n) (long : star
       front_read (record { two = omega arith; inside = long; few = le_refl start }) least refl h.id refl h.samples_length refl h.its_tag h.threshold
 
   -- groups refused
-  pub crdc_refused : {k : ℕ} {b b₁ after : List ℕ} {a : Answer} {m p : ℕ} {r : Opened} → Scanned (each group_rows) (samples_from ws start n) (k + 2) b₁ a after → a ≡ Refused m p
-      → r ≡ opened_of (start + n) a → OpensAs crdc ws start n k b after r
-  crdc_refused {m = m} {p = p} t q e =
-      let x : samples_from ws start n ≡ refuse m p = refused_scan (each group_rows) (samples_from ws start n) (rw q at t) in
-      opens_refused crdc (e ∙ ap (opened_of (start + n)) q) (front_passed ∙ rw x)
+  pub crdc_refused : {k : ℕ} {b b₁ after : List ℕ} {r : Refusal} → Scanned (each group_rows) (samples_from ws start n) (k + 2) b₁ (Err r) after → OpensAs crdc ws start n k b after (Err r)
+  crdc_refused {k} {b} {b₁} {after} {r} t = go (refused_scan (each group_rows) (samples_from ws start n) t)
+    where
+      go : RefusedAs (samples_from ws start n) r → OpensAs crdc ws start n k b after (Err r)
+      go u = record { opens = record { number = u.number; place = u.place; refused = front_passed ∙ rw u.refused; named = u.named } }
 
   -- groups read: the anode is left
   sampled : (xs : List Group) → samples_from ws start n ≡ ok xs (start + n - 4) [] → rest_of crdc ws start n
@@ -185,7 +195,7 @@ module _ {ws : List ℕ} {start n : ℕ} (h : CrdcFront ws start n) (long : star
   sampled xs e = front_passed ∙ rw e (then_then (inner 4 anode_tag anode (start + n - 4) (slice (start + n - 4) (start + n) ws)) _ _)
 
   anode_leads : {k k₁ : ℕ} {b b₁ b₂ : List ℕ} → b₁ ≡ store_rows b k (crdc_front_rows ws start) → (x : Result ℕ (List Group)) → samples_from ws start n ≡ x
-      → Scanned (each group_rows) x (k + 2) b₁ (Accepted k₁) b₂
+      → Scanned (each group_rows) x (k + 2) b₁ (Ok k₁) b₂
       → Leads anode_rows (inner 4 anode_tag anode (start + n - 4) (slice (start + n - 4) (start + n) ws)) k₁ b₂ packet_rows (rest_of crdc ws start n) k b
   anode_leads q (refuse m p) e t = let f = t.answered in impossible cc
   anode_leads {k} {k₁} {b} {b₁} {b₂} q (ok xs j r) e t =
@@ -198,12 +208,8 @@ module _ {ws : List ℕ} {start n : ℕ} (h : CrdcFront ws start n) (long : star
       rw (p, u, sampled xs w) (leads_part before anode_rows (inner 4 anode_tag anode (start + n - 4) (slice (start + n - 4) (start + n) ws)) _ packet_rows k b
       (λ a. refl))
 
-  pub crdc_whole : {k k₁ : ℕ} {b b₁ b₂ after : List ℕ} {s a : Answer} {r : Opened} → b₁ ≡ store_rows b k (crdc_front_rows ws start)
-      → Scanned (each group_rows) (samples_from ws start n) (k + 2) b₁ s b₂ → s ≡ Accepted k₁
-      → Scanned anode_rows (inner 4 anode_tag anode (start + n - 4) (slice (start + n - 4) (start + n - 4 + 4) ws)) k₁ b₂ a after × NoMore (start + n - 4 + 4) a
-      → r ≡ opened_of (start + n) a → OpensAs crdc ws start n k b after r
-  crdc_whole {after = after} {a = a} q t e u v =
-      let least = h.least in
-      let end : start + n - 4 + 4 ≡ start + n = omega arith in
-      let w = rw end at u in
-      opens_answer crdc a ((anode_leads q (samples_from ws start n) refl (rw e at t)).leads a after w.0) w.1 v
+  pub crdc_whole : {k k₁ : ℕ} {b b₁ b₂ after : List ℕ} {a : Answer} {r : OpenAnswer} → b₁ ≡ store_rows b k (crdc_front_rows ws start)
+      → Scanned (each group_rows) (samples_from ws start n) (k + 2) b₁ (Ok k₁) b₂
+      → Scanned anode_rows (inner 4 anode_tag anode (start + n - 4) (slice (start + n - 4) (start + n) ws)) k₁ b₂ a after × NoMore (start + n) a
+      → OpenedWhole (start + n) a r → OpensAs crdc ws start n k b after r
+  crdc_whole {after = after} {a = a} q t u v = opens_answer crdc a ((anode_leads q (samples_from ws start n) refl t).leads a after u.0) u.1 v

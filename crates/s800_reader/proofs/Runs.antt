@@ -8,13 +8,14 @@ use mathlib.Core.List.{List, [], ◌∷◌}
 use lib.ListN.{length, get_or}
 use lib.Seq.{slice}
 use borrow.Author.Tests.{eq-eqb, ne_eqb, lt-ltb}
-use Rattle.event.specs.declared.Answer.{Answer}
-use Rattle.event.specs.declared.Answer.TheVariants.{Refused}
 use Rattle.event.specs.Parser.{ok, refuse, ended, many, each, alone}
 use Rattle.event.specs.Channels.{insert, Blocked}
 use Rattle.event.specs.Rows.{row, store_row}
 use Rattle.event.specs.Scanning.{store_rows, Scanned}
 use Rattle.event.proofs.ChannelLaws.{blocked_more}
+use Rattle.event.specs.declared.refusal.Refusal.{Refusal}
+use Rattle.event.proofs.Answers.{Failed}
+use Rattle.event.proofs.Leads.{refused_as}
 use Rattle.event.proofs.ChannelTurns.{on_fault}
 use Rattle.event.proofs.Turns.{Reached, at_two, read_below, step, stop}
 use Rattle.s800_format.proofs.Formats.{pair_format, pair_format_lem}
@@ -24,6 +25,8 @@ use Rattle.s800_layout.specs.Reading.{whole, datum_of, datum, pair}
 use Rattle.s800_layout.proofs.Words.{codes_whole, codes_pair}
 use Rattle.s800_reader.specs.Channel.{fault_of, opaque_rows, pair_of}
 use Rattle.s800_reader.proofs.Channels.{judged}
+use Rattle.event.specs.Refusal.{Answer, refusal}
+use Rattle.std.specs.Prelude.{Err}
 
 pub read_whole : (ws : List ℕ) (i end : ℕ) → i < end → end ≤ length ws → get_or ws i 0 < 2 ^ 16 → whole i (slice i end ws) ≡ ok (get_or ws i 0) (i + 1) (slice (i + 1) end ws)
 read_whole = read_below 10 (2 ^ 16)
@@ -73,14 +76,18 @@ PairsScanned ws end i₀ = Scanned (each pair_rows) (many pair pair_channels end
 
 module _ {set : ℕ} {ws : List ℕ} {end i₀ k₀ i k : ℕ} {b₀ b : List ℕ} (h : Pairs set ws end i₀ k₀ b₀ i k b) (below : i + 1 < end) (long : end ≤ length ws)
     {v : ℕ} (p : v ≡ get_or ws i 0) (f : v < 2 ^ 16) where
-  pub pair_stop : {n : ℕ} (after : List ℕ) → n ≡ fault_of pair_format set v → (n ≡ 0 → ⊥) → PairsScanned ws end i₀ k₀ b₀ (Refused n i) after
-  pair_stop {n} after e z = stop codes_pair (λ u a g r. refl) h (omega arith) long after
-      (rw (at_two ws i end below long p refl) (pair_energy_lem h.holds i f (get_or ws (i + 1) 0) (slice (i + 2) end ws) n e z))
+  pub pair_stop : {r : Refusal} (after : List ℕ) → Failed (fault_of pair_format set v) i r → PairsScanned ws end i₀ k₀ b₀ (Err r) after
+  pair_stop after t = stop codes_pair (λ u a g r. refl) h (omega arith) long after (record {
+    number = fault_of pair_format set v;
+    place = i;
+    refused = rw (at_two ws i end below long p refl) (pair_energy_lem h.holds i f (get_or ws (i + 1) 0) (slice (i + 2) end ws) (fault_of pair_format set v) refl t.some);
+    named = t.named;
+  })
 
   module _ {w : ℕ} (q : w ≡ get_or ws (i + 1) 0) (e : 0 ≡ fault_of pair_format set v) where
-    pub pair_stop_2 : {x : Answer} (after : List ℕ) → (w / 4096 ≡ v / 4096 → ⊥) → x ≡ Refused 10 (i + 1) → PairsScanned ws end i₀ k₀ b₀ x after
+    pub pair_stop_2 : {x : Answer} (after : List ℕ) → (w / 4096 ≡ v / 4096 → ⊥) → x ≡ Err (refusal 10 (i + 1)) → PairsScanned ws end i₀ k₀ b₀ x after
     pair_stop_2 after z x = rw x (stop codes_pair (λ u a g r. refl) h (omega arith) long after
-        (rw (at_two ws i end below long p q) (pair_time h.holds i f w (slice (i + 2) end ws) e z)))
+        (refused_as {n = 10} {p = i + 1} (rw (at_two ws i end below long p q) (pair_time h.holds i f w (slice (i + 2) end ws) e z))))
 
     pub pair_step : {set' : ℕ} {b' : List ℕ} → w / 4096 ≡ v / 4096 → set' ≡ insert set (v / 4096 % 32) → b' ≡ store_rows b k (pair_rows (pair_of v w)) → length b' ≡ length b
         → Pairs set' ws end i₀ k₀ b₀ (i + 2) (k + 2) b'

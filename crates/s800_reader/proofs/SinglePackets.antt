@@ -10,30 +10,29 @@ use lib.ListN.{length, get_or}
 use lib.Seq.{slice, slice_empty}
 use borrow.Author.Tests.{eq-eqb, ne_eqb, lt-ltb}
 use Rattle.event.specs.declared.Row.{Row}
-use Rattle.event.specs.Parser.{Result, ok, refuse, then, give, each}
+use Rattle.event.specs.Parser.{Result, ok, refuse, Test, test, judge, then, give, each}
 use Rattle.event.specs.Rows.{row}
 use Rattle.event.specs.Scanning.{store_rows, Leads}
-use Rattle.event.proofs.ChannelLaws.{blocked_none}
 use Rattle.event.proofs.Elements.{is_between}
 use Rattle.event.proofs.Leads.{leads_part, leads_trans}
 use Rattle.event.proofs.Turns.{at_word, three_words}
 use Rattle.s800_layout.specs.Event.{Datum, hits, hodoscope, object_pin, Packet, tag, hits_id, ChannelFormat, energy16}
-use Rattle.s800_layout.specs.Layout.{packet_row, packet_rows}
+use Rattle.s800_layout.specs.Layout.{datum_word, datum_checks, packet_row, packet_rows}
 use Rattle.s800_layout.specs.Reading.{datum, datum_of, channel_words}
 use Rattle.s800_format.specs.declared.Format.{Format}
-use Rattle.s800_reader.specs.declared.Opened.{Opened}
-use Rattle.s800_reader.specs.declared.Opened.TheVariants.{Channels, Refused}
 use Rattle.s800_format.specs.Format.{format_of, energies_of}
-use Rattle.s800_reader.specs.Channel.{fault_of, channel_rows}
+use Rattle.s800_reader.specs.Channel.{channel_rows}
 use Rattle.s800_reader.specs.Opening.{PacketAt, HodoscopeHits, rest_of, OpensAs}
-use Rattle.s800_reader.proofs.Channels.{judged}
 use Rattle.s800_reader.proofs.Opening.{opens_refused, opens_complete}
 use Rattle.s800_format.proofs.Formats.{energies_format}
 use Rattle.s800_reader.proofs.ChannelPackets.{first_word}
+use Rattle.event.specs.Refusal.{refusal}
+use Rattle.std.specs.Prelude.{Ok, Err}
+use Rattle.s800_reader.specs.Opening.{OpenAnswer, channels_left}
 
 module _ {ws : List ℕ} {start n k : ℕ} (s : PacketAt ws start n k) (h : HodoscopeHits ws start n) where
-  pub hits_length : {b after : List ℕ} {r : Opened} → (n ≡ 6 → ⊥) → r ≡ Refused 7 start → OpensAs hodoscope ws start n k b after r
-  hits_length z q = opens_refused hodoscope q (rw (is_between 3 19 n h.least h.most, first_word s h.least (sym h.id), ne_eqb n 6 z))
+  pub hits_length : {b after : List ℕ} {r : OpenAnswer} → (n ≡ 6 → ⊥) → r ≡ Err (refusal 7 start) → OpensAs hodoscope ws start n k b after r
+  hits_length z q = opens_refused hodoscope {m = 7} {p = start} q (rw (is_between 3 19 n h.least h.most, first_word s h.least (sym h.id), ne_eqb n 6 z))
 
   module _ (six : n ≡ 6) {u v w : ℕ} (a : u ≡ get_or ws (start + 3) 0) (b : v ≡ get_or ws (start + 4) 0) (c : w ≡ get_or ws (start + 5) 0)
       (fa : u < 2 ^ 16) (fb : v < 2 ^ 16) (fc : w < 2 ^ 16) where
@@ -62,10 +61,20 @@ module _ {ws : List ℕ} {start n k : ℕ} (s : PacketAt ws start n k) (h : Hodo
           six_on,
         )
 
-    pub hits_opens : {before after : List ℕ} {r : Opened} → after ≡ store_rows before k (packet_row (tag hodoscope) hits_id ∷ row 10 u v w ∷ [])
-        → r ≡ Channels (energies_of 0 energy16) (start + n) (start + n) (k + 2)
+    pub hits_opens : {before after : List ℕ} {r : OpenAnswer} → after ≡ store_rows before k (packet_row (tag hodoscope) hits_id ∷ row 10 u v w ∷ [])
+        → r ≡ Ok (channels_left (energies_of 0 energy16) (start + n) (start + n) (k + 2))
         → OpensAs hodoscope ws start n k before after r
     hits_opens e q = opens_complete hodoscope (rw hits_read (record { answered = refl; stored = e })) (let few = s.few in omega arith) q
+
+-- one word that is judged: it is taken, or refused
+judged_word : {A : Type 0} (a : A) (i : ℕ) (r : List ℕ) (ts : List Test) → (good : Bool) × (n : ℕ) × (judge ts a i r ≡ cond good (ok a (suc i) r) (refuse n i))
+judged_word a i r [] = (true, 0, refl)
+judged_word {A} a i r (t ∷ ts) = go t.holds (judged_word a i r ts)
+  where
+    go : (h : Bool) → (good : Bool) × (n : ℕ) × (judge ts a i r ≡ cond good (ok a (suc i) r) (refuse n i))
+        → (good : Bool) × (n : ℕ) × (cond h (judge ts a i r) (refuse t.number i) ≡ cond good (ok a (suc i) r) (refuse n i))
+    go true x = x
+    go false x = (false, t.number, refl)
 
 -- one channel word: its run is itself
 module _ (m : Format) (i w : ℕ) (g : Datum → Packet) (before : List Row) (rows : (d : Datum) → packet_rows (g d) ≡ before ++ channel_rows m d) (k : ℕ) (b : List ℕ) where
@@ -78,20 +87,20 @@ module _ (m : Format) (i w : ℕ) (g : Datum → Packet) (before : List Row) (ro
       rw e (leads_trans (record { leads = λ r l s. record { answered = s.answered; stored = s.stored } }) (leads_part before (channel_rows m) (ok d (suc i) []) g packet_rows k b rows))
   one_word false n d e = rw e (record { leads = λ r l s. record { answered = s.answered; stored = tt } })
 
-module _ {ws : List ℕ} {start n k : ℕ} (s : PacketAt ws start n k) (three : n ≡ 3) (fits : get_or ws (start + 2) 0 < 2 ^ 16) where
+module _ {ws : List ℕ} {start n k : ℕ} (s : PacketAt ws start n k) (three : n ≡ 3) where
   abbrev energy : ℕ
   energy = get_or ws (start + 2) 0
 
   pub pin_opens : {b after : List ℕ} → after ≡ store_rows b k (packet_row (tag object_pin) 0 ∷ [])
-      → OpensAs object_pin ws start n k b after (Channels (energies_of 0 energy16) (start + 2) (start + n) (k + 1))
+      → OpensAs object_pin ws start n k b after (Ok (channels_left (energies_of 0 energy16) (start + 2) (start + n) (k + 1)))
   pin_opens {b} q =
       let few = s.few in
       let m = energies_of 0 energy16 in
       let end : start + n ≡ suc (start + 2) = omega arith in
       let word : slice (start + 2) (start + n) ws ≡ energy ∷ [] = at_word ws (start + 2) (start + n) (omega arith) s.inside ∙ rw (end, slice_empty (suc (start + 2)) ws) in
-      let j = judged m fits blocked_none (start + 2) [] in
-      let l = one_word m (start + 2) energy (λ d. record { form = object_pin; content = d }) (packet_row (tag object_pin) 0 ∷ []) (λ d. refl) k b
-      (eqb (fault_of m 0 energy) 0) (fault_of m 0 energy) (datum_of (format_of m) energy) j in
+      let d = datum_of (format_of m) energy in
+      let j = judged_word d (start + 2) [] (test 10 (eqb energy (datum_word (format_of m) d)) ∷ datum_checks 10 11 (format_of m) [] d) in
+      let l = one_word m (start + 2) energy (λ d. record { form = object_pin; content = d }) (packet_row (tag object_pin) 0 ∷ []) (λ d. refl) k b j.0 j.1 d j.2 in
       let p = subst (λ (f : ChannelFormat). Leads (each (channel_rows m)) (channel_words (format_of m) (start + 2) (energy ∷ [])) (k + 1) (store_rows b k (packet_row (tag object_pin) 0 ∷ []))
       packet_rows (then (λ x. give (record { form = object_pin; content = x })) (datum f [] (start + 2) (energy ∷ []))) k b) (energies_format 0) l in
       record {

@@ -1,10 +1,10 @@
 -- The code's view of a packet's words, and of runs of them. (The contracts of private functions.)
 -- Assumes nothing.
-use Rattle.std.specs.Prelude.{ℕ, ◌/◌, ◌%◌, ◌^◌, ◌≤◌, cond, List, [], ◌∷◌}
-use Rattle.event.specs.declared.Answer.{Answer}
-use Rattle.event.specs.declared.Answer.TheVariants.{Accepted, Refused}
+use Rattle.std.specs.Prelude.{ℕ, ◌/◌, ◌%◌, ◌^◌, ◌≤◌, cond, List, [], ◌∷◌, Ok, Err}
 use Rattle.event.specs.declared.Row.{Row}
 use Rattle.event.specs.Channels.{present}
+use Rattle.event.specs.Kind.{number}
+use Rattle.event.specs.Refusal.{Answer}
 use Rattle.event.specs.Rows.{row}
 use Rattle.s800_layout.specs.Event.{Datum, Pair, Anode, pair_energy}
 use Rattle.s800_layout.specs.Layout.{datum_row, anode_row}
@@ -25,7 +25,7 @@ unfoldable pub fault_of : Format → ℕ → ℕ → ℕ
 fault_of m blocked w = cond (present blocked (channel_of m w)) (cond (present m.barred (channel_of m w)) 10 11) 0
 
 abbrev pub channel_row : Format → Datum → Row
-channel_row m d = datum_row m.kind m.base d
+channel_row m d = datum_row (number m.kind) m.base d
 
 -- Rows of one item of a run.
 
@@ -44,5 +44,5 @@ pair_of energy time = record { energy = datum_of pair_energy energy; time = time
 
 -- no more rows than words up to `end`
 abbrev pub NoMore : ℕ → Answer → Type 0
-NoMore end (Accepted k) = k ≤ end
-NoMore end (Refused n p) = Unit {0}
+NoMore end (Ok k) = k ≤ end
+NoMore end (Err r) = Unit {0}

@@ -1,36 +1,34 @@
 // The groups of samples of a CRDC: a head, a word with bit 15, then one to four data words with rising connectors (document 02, #103).
 // A word is judged by the one before it, and gives one row. The loops over good words have no branch by their kind, which cannot be foreseen.
-ghost use Rattle.std.specs.Prelude.{◌+◌, ◌≤◌, ◌<◌, ◌≡◌, false, length};
+ghost use Rattle.std.specs.Prelude.{◌+◌, ◌-◌, ◌≤◌, ◌<◌, ◌≡◌, false, length};
 ghost use Rattle.std.proofs.Math.Seq.{slice};
-ghost use Rattle.event.specs.Parser.{refuse, each};
+ghost use Rattle.event.specs.Parser.{each};
 ghost use Rattle.event.specs.Scanning.{store_rows, Scanned};
 ghost use Rattle.s800_layout.specs.Layout.{group_rows};
 ghost use Rattle.s800_reader.specs.Channel.{NoMore};
-ghost use Rattle.s800_reader.specs.Groups.{follows, word_row, word_rows, groups_in, Judged};
+ghost use Rattle.s800_reader.specs.Groups.{follows, word_row, word_rows, groups_in, FaultAt, Judged};
 
-use crate::parts::refuse;
+use crate::packet::Packet;
 use crate::word::word;
+use event::Row;
+use event::kind::Kind;
+use event::refusal::{Fault, Refusal, refuse};
 use event::rows::{fitting, store_row};
 use event::words::pick;
-use event::{Answer, Row, kind, refusal};
 use s800_format::pad;
 
-// The groups from `from` up to `end`.
-pub(crate) fn read_samples(
-    words: &[u16],
-    from: usize,
-    end: usize,
-    rows: &mut [u32],
-    first: usize,
-) -> Answer
-    requires { (from ≤ end) × (end ≤ length words.now) × (first ≤ from) }
-    ensures { Scanned (each group_rows) (groups_in words.now from end) first rows.old result rows.new × NoMore end result }
+// The groups of a CRDC packet: from word 6 up to the last four.
+pub(crate) fn read_samples(packet: Packet, rows: &mut [u32]) -> Result<usize, Refusal>
+    requires { 10 ≤ packet.size }
+    ensures { Scanned (each group_rows) (groups_in packet.entry.words.now (packet.entry.start + 6) (packet.entry.start + packet.entry.size - 4)) (packet.entry.count + 2) rows.old result rows.new × NoMore (packet.entry.start + packet.entry.size - 4) result }
 {
-    if groups_hold(words, from, end) {
-        store_groups(words, from, end, rows, first);
-        return Answer::Accepted(first + (end - from));
+    let from = packet.start + 6;
+    let end = packet.start + packet.size - 4;
+    if groups_hold(packet.words, from, end) {
+        store_groups(packet.words, from, end, rows, packet.count + 2);
+        return Ok(packet.count + 2 + (end - from));
     }
-    refuse(refusal::DATA, group_fault(words, from, end))
+    refuse(Fault::Data, group_fault(packet.words, from, end))
 }
 
 // Whether the words are groups. Nothing is decided before the last of them, so that several are judged at once.
@@ -42,10 +40,8 @@ fn groups_hold(words: &[u16], from: usize, end: usize) -> bool
         return true;
     }
     let mut holds = 0x8000 <= word(words, from);
-    let mut i = from + 1;
-    while i < end {
+    for i in from + 1..end {
         holds = holds & follow(word(words, i - 1), word(words, i));
-        i += 1;
     }
     holds & (word(words, end - 1) < 0x8000)
 }
@@ -62,26 +58,23 @@ fn follow(before: u32, w: u32) -> bool
 // The place of the first fault in words that are not groups: a data word, or a head with no data word after it.
 fn group_fault(words: &[u16], from: usize, end: usize) -> usize
     requires { (from ≤ end) × (end ≤ length words.now) × Judged words.now from end false }
-    ensures { groups_in words.now from end ≡ refuse 10 result }
+    ensures { FaultAt words.now from end result }
 {
     // As after a data word of connector 3: only a head may come first.
     let mut before: u32 = 0x0c00;
     let mut head = from;
-    let mut i = from;
-    while i < end {
+    for i in from..end {
         let w = word(words, i);
-        if follow(before, w) {
-            if 0x8000 <= w {
-                head = i;
-            }
-            before = w;
-            i += 1;
-        } else {
+        if !follow(before, w) {
             if w < 0x8000 {
                 return i;
             }
             return head;
         }
+        if 0x8000 <= w {
+            head = i;
+        }
+        before = w;
     }
     head
 }
@@ -93,12 +86,10 @@ fn store_groups(words: &[u16], from: usize, end: usize, rows: &mut [u32], first:
 {
     let most = fitting(end - from, first, rows.len() / 4);
     let mut head: u32 = 0;
-    let mut i: usize = 0;
-    while i < most {
+    for i in 0..most {
         let w = word(words, from + i);
         store_row(rows, first + i, word_row(head, w));
         head = pick(0x8000 <= w, w, head);
-        i += 1;
     }
 }
 
@@ -110,7 +101,11 @@ fn word_row(head: u32, w: u32) -> Row
     let datum = pick(0x8000 <= w, 0, w);
     let under = pick(0x8000 <= w, w, head);
     Row {
-        kind: pick(0x8000 <= w, kind::SAMPLE_HEAD, kind::SAMPLE_DATUM),
+        kind: pick(
+            0x8000 <= w,
+            Kind::SampleHead as u32,
+            Kind::SampleDatum as u32,
+        ),
         unit: under / 64 % 512,
         channel: pad((under % 64) as u16, (datum / 1024) as u16),
         datum: datum % 1024,

@@ -2,67 +2,55 @@
 ghost use Rattle.std.specs.Prelude.{◌+◌, ◌≤◌, ◌<◌, ◌≡◌, length};
 ghost use Rattle.event.specs.Scanning.{store_rows};
 ghost use Rattle.s800_layout.specs.Layout.{stamp_row};
-ghost use Rattle.s800_reader.specs.Head.{frame_of, head_fault, head_place, stamp_of, stamp_rows, number_rows, Begins};
+ghost use Rattle.s800_format.specs.Tag.{number};
+ghost use Rattle.s800_reader.specs.Head.{frame_of, head_verdict, stamp_of, stamp_rows, number_rows, Begins};
 
-use crate::parts::{refuse, store_packet};
+use crate::parts::store_packet;
 use crate::word::word;
+use event::kind::Kind;
+use event::refusal::{Fault, Refusal, refuse};
 use event::rows::store_row;
-use event::{Answer, Row, StampOrder, kind, refusal};
-use s800_format::tag;
+use event::{Part, Row, StampOrder};
+use s800_format::tag::Tag;
 
 // Refusals 1 to 4.
-fn frame(words: &[u16]) -> Answer
+#[tactic(auto, unfolding(crate::specs::Head::frame_of))]
+fn check_frame(words: &[u16]) -> Result<(), Refusal>
     ensures { result ≡ frame_of words.now }
 {
     let n = words.len();
-    if n < s800_format::SMALLEST_EVENT {
-        return refuse(refusal::SIZE, 0);
-    }
-    if s800_format::LARGEST_EVENT < n {
-        return refuse(refusal::SIZE, 0);
+    if !(s800_format::SMALLEST_EVENT..=s800_format::LARGEST_EVENT).contains(&n) {
+        return refuse(Fault::Size, 0);
     }
     if word(words, 0) as usize != n {
-        return refuse(refusal::EVENT_LENGTH, 0);
+        return refuse(Fault::EventLength, 0);
     }
-    if word(words, 1) != tag::EVENT {
-        return refuse(refusal::EVENT_TAG, 1);
+    if word(words, 1) != Tag::Event as u32 {
+        return refuse(Fault::EventTag, 1);
     }
     if word(words, 2) != s800_format::VERSION {
-        return refuse(refusal::VERSION, 2);
+        return refuse(Fault::Version, 2);
     }
-    Answer::Accepted(0)
+    Ok(())
 }
 
-// The refusal that a packet with one tag and one length meets at `start`, 0 for none.
-fn head_fault(words: &[u16], start: usize, tag: u32, size: usize) -> u32
+// Refusals 5 to 7 of a packet with one tag and one length, at `start`.
+#[tactic(auto, unfolding(crate::specs::Head::head_fault))]
+fn check_head(words: &[u16], start: usize, tag: Tag, size: usize) -> Result<(), Refusal>
     requires { start + 1 < length words.now }
-    ensures { result ≡ head_fault words.now start tag size }
+    ensures { result ≡ head_verdict words.now start (number tag) size }
 {
     let n = word(words, start) as usize;
-    if n < 2 {
-        return refusal::EXTENT;
+    if !(2..=words.len() - start).contains(&n) {
+        return refuse(Fault::Extent, start);
     }
-    if words.len() - start < n {
-        return refusal::EXTENT;
-    }
-    if word(words, start + 1) != tag {
-        return refusal::TAG;
+    if word(words, start + 1) != tag.number() {
+        return refuse(Fault::Tag, start + 1);
     }
     if n != size {
-        return refusal::LENGTH;
+        return refuse(Fault::Length, start);
     }
-    0
-}
-
-// A refused tag stands at the tag, a refused length at the packet's first word.
-fn head_refused(number: u32, start: usize) -> Answer
-    requires { start < 4096 }
-    ensures { result ≡ Answer.Refused number (head_place number start) }
-{
-    if number == refusal::TAG {
-        return refuse(number, start + 1);
-    }
-    refuse(number, start)
+    Ok(())
 }
 
 // The stamp's chunks a to d, in word order.
@@ -72,13 +60,13 @@ fn stamp_row(order: StampOrder, a: u32, b: u32, c: u32, d: u32) -> Row
 {
     match order {
         StampOrder::Crossed => Row {
-            kind: kind::STAMP,
+            kind: Kind::Stamp as u32,
             unit: 0,
             channel: d * 65536 + b,
             datum: c * 65536 + a,
         },
         StampOrder::Rising => Row {
-            kind: kind::STAMP,
+            kind: Kind::Stamp as u32,
             unit: 0,
             channel: d * 65536 + c,
             datum: b * 65536 + a,
@@ -90,7 +78,7 @@ fn store_stamp(words: &[u16], order: StampOrder, rows: &mut [u32])
     requires { 14 ≤ length words.now }
     ensures { rows.new ≡ store_rows rows.old 0 (stamp_rows order words.now) }
 {
-    store_packet(rows, 0, tag::TIMESTAMP, 0);
+    store_packet(rows, 0, Tag::Timestamp, 0);
     let stamp = stamp_row(
         order,
         word(words, 5),
@@ -105,9 +93,9 @@ fn store_number(words: &[u16], rows: &mut [u32])
     requires { 14 ≤ length words.now }
     ensures { rows.new ≡ store_rows rows.old 2 (number_rows words.now) }
 {
-    store_packet(rows, 2, tag::EVENT_NUMBER, 0);
+    store_packet(rows, 2, Tag::EventNumber, 0);
     let number = Row {
-        kind: kind::EVENT_NUMBER,
+        kind: Kind::EventNumber as u32,
         unit: 0,
         channel: word(words, 13),
         datum: word(words, 12) * 65536 + word(words, 11),
@@ -116,22 +104,13 @@ fn store_number(words: &[u16], rows: &mut [u32])
 }
 
 // Refusals 1 to 7 of the first 14 words, or their four rows.
-pub(crate) fn begin(words: &[u16], order: StampOrder, rows: &mut [u32]) -> Answer
+pub(crate) fn begin(words: &[u16], order: StampOrder, rows: &mut [u32]) -> Result<Part, Refusal>
     ensures { Begins order words.now rows.old rows.new result }
 {
-    let framed = frame(words);
-    let Answer::Accepted(_) = framed else {
-        return framed;
-    };
-    let stamp_fault = head_fault(words, 3, tag::TIMESTAMP, 6);
-    if stamp_fault != 0 {
-        return head_refused(stamp_fault, 3);
-    }
-    let number_fault = head_fault(words, 9, tag::EVENT_NUMBER, 5);
-    if number_fault != 0 {
-        return head_refused(number_fault, 9);
-    }
+    check_frame(words)?;
+    check_head(words, 3, Tag::Timestamp, 6)?;
+    check_head(words, 9, Tag::EventNumber, 5)?;
     store_stamp(words, order, rows);
     store_number(words, rows);
-    Answer::Accepted(4)
+    Ok(Part { next: 14, count: 4 })
 }

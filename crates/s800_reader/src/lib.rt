@@ -6,6 +6,7 @@ mod channel_packets;
 mod content;
 mod groups;
 mod head;
+mod open_packet;
 mod packet;
 mod parts;
 mod scan;
@@ -18,40 +19,25 @@ ghost use Rattle.event.specs.Rows.{flat, room};
 ghost use Rattle.s800_layout.specs.Reading.{reading};
 
 use crate::scan::scan;
-use event::{Answer, StampOrder, refusal};
-use s800_format::Format;
+use event::StampOrder;
+use event::refusal::{Fault, Refusal, refuse};
 
-// What the first words of a packet lead to.
-#[derive(Drop)]
-enum Opened {
-    // Channel words from `at` up to the packet's end, none where `at` is the end, after `count` rows of the event.
-    Channels {
-        format: Format,
-        at: usize,
-        end: usize,
-        count: usize,
-    },
-    Refused {
-        number: u32,
-        place: usize,
-    },
+// The number of rows of an event, or its refusal.
+pub fn check(words: &[u16], order: StampOrder) -> Result<usize, Refusal>
+    ensures { result ≡ answer_of (reading order words.now) }
+{
+    let mut none: [u32; 0] = [];
+    scan(words, order, &mut none)
 }
 
 // Reads one event into rows, four elements each. A refused reading leaves every element as it was.
-pub fn read(words: &[u16], order: StampOrder, rows: &mut [u32]) -> Answer
+pub fn read(words: &[u16], order: StampOrder, rows: &mut [u32]) -> Result<usize, Refusal>
     ensures answer { result ≡ answer_of (in_room (room (length rows.old)) (reading order words.now)) }
     ensures buffer { rows.new ≡ overlaid (flat (given (in_room (room (length rows.old)) (reading order words.now)))) rows.old }
 {
-    let mut none: [u32; 0] = [];
-    let checked = scan(words, order, &mut none);
-    let Answer::Accepted(count) = checked else {
-        return checked;
-    };
+    let count = check(words, order)?;
     if rows.len() / 4 < count {
-        return Answer::Refused {
-            number: refusal::ROOM,
-            place: count,
-        };
+        return refuse(Fault::Room, count);
     }
     scan(words, order, rows)
 }

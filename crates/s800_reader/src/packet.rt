@@ -1,43 +1,56 @@
-// One packet after the stamp and the event number, up to its channel words.
-ghost use Rattle.std.specs.Prelude.{◌≤◌, ◌<◌, length};
-ghost use Rattle.s800_reader.specs.Opening.{OpensPacket};
+// A packet among the words of an event.
+ghost use Rattle.std.specs.Prelude.{◌+◌, ◌≤◌, ◌<◌, ◌≡◌, length, get_or};
 
-use crate::Opened;
-use crate::channel_packets::{
-    open_hodoscope, open_ion_chamber, open_object_pin, open_time_of_flight, open_trigger,
-    open_vme_adc,
-};
-use crate::parts::refuse_packet;
-use crate::whole_packets::{open_crdc, open_opaque, open_scintillator};
+use crate::channel::Channels;
 use crate::word::word;
-use event::refusal;
-use s800_format::{is_opaque, tag};
+use s800_format::{Format, energies};
 
-// Refusals 5 and 6; then the packet's own function goes on with 7.
-pub(crate) fn open_packet(words: &[u16], start: usize, rows: &mut [u32], count: usize) -> Opened
-    requires { (start < length words.now) × (count ≤ start) }
-    ensures { OpensPacket words.now start count rows.old rows.new result }
-{
-    let size = word(words, start) as usize;
-    if size < 2 {
-        return refuse_packet(refusal::EXTENT, start);
+// The packet of `size` words whose first word is word `start`; `count` rows of the event come before its own.
+#[derive(Clone, Copy)]
+pub(crate) struct Packet<'a> {
+    pub(crate) words: &'a [u16],
+    pub(crate) start: usize,
+    pub(crate) size: usize,
+    pub(crate) count: usize,
+    ghost two: { 2 ≤ size },
+    ghost inside: { start + size ≤ length words.now },
+    ghost few: { count ≤ start },
+}
+
+impl<'a> Packet<'a> {
+    ghost use Rattle.s800_layout.specs.Event.{energy16};
+    ghost use Rattle.s800_format.specs.Format.{energies_of};
+    ghost use Rattle.s800_reader.specs.Opening.{channels_left};
+
+    pub(crate) fn word(self, k: usize) -> u32
+        requires { k < self.size }
+        ensures { (result ≡ get_or self.entry.words.now (self.entry.start + k) 0) × (result < 65536) }
+    {
+        word(self.words, self.start + k)
     }
-    if words.len() - start < size {
-        return refuse_packet(refusal::EXTENT, start);
+
+    // Its channel words are those from word k on, after so many rows of its own.
+    pub(crate) fn channels(self, format: Format, k: usize, rows: usize) -> Channels
+        requires { (k ≤ self.size) × (rows ≤ k) }
+        ensures { result ≡ channels_left format (self.entry.start + k) (self.entry.start + self.entry.size) (self.entry.count + rows) }
+    {
+        Channels {
+            format,
+            at: self.start + k,
+            end: self.start + self.size,
+            count: self.count + rows,
+        }
     }
-    let tag = word(words, start + 1);
-    if is_opaque(tag) {
-        return open_opaque(words, start, size, tag, rows, count);
-    }
-    match tag {
-        tag::TRIGGER => open_trigger(words, start, size, rows, count),
-        tag::TIME_OF_FLIGHT => open_time_of_flight(words, start, size, rows, count),
-        tag::SCINTILLATOR => open_scintillator(words, start, size, rows, count),
-        tag::ION_CHAMBER => open_ion_chamber(words, start, size, rows, count),
-        tag::CRDC => open_crdc(words, start, size, rows, count),
-        tag::HODOSCOPE => open_hodoscope(words, start, size, rows, count),
-        tag::OBJECT_PIN => open_object_pin(words, start, size, rows, count),
-        tag::VME_ADC => open_vme_adc(words, start, size, rows, count),
-        _ => refuse_packet(refusal::TAG, start + 1),
+
+    // It is read whole, up to row `count` of the event: no channel words are left.
+    pub(crate) fn whole(self, count: usize) -> Channels
+        ensures { result ≡ channels_left (energies_of 0 energy16) (self.entry.start + self.entry.size) (self.entry.start + self.entry.size) count }
+    {
+        Channels {
+            format: energies(0),
+            at: self.start + self.size,
+            end: self.start + self.size,
+            count,
+        }
     }
 }

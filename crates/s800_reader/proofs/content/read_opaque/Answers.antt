@@ -1,17 +1,26 @@
 -- `content::read_opaque` meets its contract. Assumes nothing.
 use native.Mathlib.Omega.{arith}
+use mathlib.Core.Path.{◌≡◌}
 use borrow.Author.Rules.{rules}
 use Rattle.event.proofs.Turns.{begin, finish}
 use Rattle.s800_reader.proofs.Runs.{opaque_step}
+use Prim.Native.Nat.{◌+◌, ◌-◌}
 use Rattle.s800_reader.proofs.content.read_opaque.Goals as goal
 
-pub loop-i-init : goal.loop-i-init
-loop-i-init c = begin tt (search rules) (search rules)
+pub loop-k-init : goal.loop-k-init
+loop-k-init c =
+    let one : c.args.packet.count + 2 - 1 ≡ c.args.packet.count + 1 = omega arith in
+    rw one (begin tt (omega (arith, c.args.packet.two)) (omega (arith, c.args.packet.few)))
 
-pub loop-i-preserved : goal.loop-i-preserved
-loop-i-preserved c =
+pub loop-k-preserved : goal.loop-k-preserved
+loop-k-preserved c =
     let w = c.word in
-    opaque_step c.loop-i.invariant (search rules) (search rules) w.ensures.0 w.ensures.1 c.store_row.ensures c.store_row.auto.rows
+    let next : c.args.packet.count + (c.loop-k.k + 1) - 1 ≡ c.args.packet.count + c.loop-k.k - 1 + 1 = omega arith in
+    let at : c.args.packet.start + (c.loop-k.k + 1) ≡ c.args.packet.start + c.loop-k.k + 1 = omega arith in
+    rw (at, next) (opaque_step c.loop-k.invariant (search rules) (search rules) w.ensures.0 w.ensures.1 c.store_row.ensures c.store_row.auto.rows)
 
 pub returns : goal.returns
-returns c = (omega (arith, c.loop-i.invariant.few), finish c.loop-i.invariant c.loop-i-test.false)
+returns c =
+    let end : c.loop-k.k ≡ c.args.packet.size = search rules in
+    let h = rw end at c.loop-k.invariant in
+    (omega (arith, c.args.packet.few, c.args.packet.two), finish h (omega arith))

@@ -1,39 +1,52 @@
 -- `content::read_pairs` meets its contract. Assumes nothing.
-use mathlib.Core.Path.{sym, ◌∙◌}
+use Prim.Native.Nat.{◌+◌, ◌*◌, ◌-◌}
 use native.Mathlib.Omega.{arith}
-use borrow.Author.Rules.{rules}
+use mathlib.Core.Path.{◌≡◌, ◌∙◌}
+use Rattle.std.proofs.lemmas.Result.{err_from_is_err_and}
+use Rattle.event.proofs.Answers.{passed_test, failed_test}
 use Rattle.event.proofs.ChannelLaws.{blocked_none}
 use Rattle.event.proofs.Turns.{begin, finish}
 use Rattle.s800_reader.proofs.Runs.{pair_stop, pair_stop_2, pair_step}
+use Rattle.s800_format.proofs.Formats.{pair_format}
+use Rattle.s800_reader.specs.Channel.{fault_of}
 use Rattle.s800_reader.proofs.content.read_pairs.Goals as goal
 
-pub loop-i-init : goal.loop-i-init
-loop-i-init c = (begin (rw c.pair_energies-format.ensures blocked_none) (search rules) (search rules), search rules, c.pair_energies-format.ensures)
+pub loop-pair-init : goal.loop-pair-init
+loop-pair-init c =
+    let one : c.args.packet.count + 2 - 1 ≡ c.args.packet.count + 1 = omega arith in
+    rw one (begin (rw c.pair_energies-format.ensures blocked_none) (omega (arith, c.args.packet.two)) (omega (arith, c.args.packet.few)))
 
-pub channel_fault-number-requires : goal.channel_fault-number-requires
-channel_fault-number-requires c = c.word-energy.ensures.1
-
-pub returns-then-number-ne0 : goal.returns-then-number-ne0
-returns-then-number-ne0 c = (
-  pair_stop c.loop-i.invariant.0 (omega arith) (search rules) c.word-energy.ensures.0 c.word-energy.ensures.1 _
-      (c.channel_fault-number.ensures ∙ rw c.loop-i.invariant.2) c.if-number-ne0.true,
-  tt,
-)
+pub returns-in_err-check_channel : goal.returns-in_err-check_channel
+returns-in_err-check_channel c =
+    let p = err_from_is_err_and c.from_residual.result c.from_residual.ensures.1 in
+    rw (p.1, p.2) (
+      pair_stop c.loop-pair.invariant (omega arith) c.args.packet.inside c.word-energy.ensures.0 c.word-energy.ensures.1 _
+          (failed_test _ _ (c.in_err-check_channel.ensures ∙ rw c.pair_energies-format.ensures)),
+      tt,
+    )
 
 pub returns-then-time-channel : goal.returns-then-time-channel
-returns-then-time-channel c = (
-  pair_stop_2 c.loop-i.invariant.0 (omega arith) (search rules) c.word-energy.ensures.0 c.word-energy.ensures.1 c.word-time.ensures.0
-      (sym c.if-number-ne0.false ∙ c.channel_fault-number.ensures ∙ rw c.loop-i.invariant.2) _ c.if-time-channel.true c.refuse.ensures,
-  rw c.refuse.ensures tt,
-)
+returns-then-time-channel c =
+    let next : c.args.packet.start + (2 * c.loop-pair.pair + 1) ≡ c.args.packet.start + 2 * c.loop-pair.pair + 1 = omega arith in
+    let none : 0 ≡ fault_of pair_format c.loop-pair.blocked c.word-energy.result = passed_test _ (c.args.packet.start + 2 * c.loop-pair.pair) c.in_ok-check_channel.ensures ∙ rw c.pair_energies-format.ensures in (
+      pair_stop_2 c.loop-pair.invariant (omega arith) c.args.packet.inside c.word-energy.ensures.0 c.word-energy.ensures.1 (c.word-time.ensures.0 ∙ rw next)
+          none _ c.if-time-channel.true c.refuse.ensures,
+      rw c.refuse.ensures tt,
+    )
 
-pub loop-i-preserved : goal.loop-i-preserved
-loop-i-preserved c = (
-  pair_step c.loop-i.invariant.0 (omega arith) (search rules) c.word-energy.ensures.0 c.word-energy.ensures.1 c.word-time.ensures.0
-      (sym c.if-number-ne0.false ∙ c.channel_fault-number.ensures ∙ rw c.loop-i.invariant.2) c.if-time-channel.false c.with_channel-blocked.ensures c.store_pair.ensures c.store_pair.auto.rows,
-  omega arith,
-  c.loop-i.invariant.2,
-)
+pub loop-pair-preserved : goal.loop-pair-preserved
+loop-pair-preserved c =
+    let p = c.args.packet in
+    let next : p.start + (2 * c.loop-pair.pair + 1) ≡ p.start + 2 * c.loop-pair.pair + 1 = omega arith in
+    let none : 0 ≡ fault_of pair_format c.loop-pair.blocked c.word-energy.result = passed_test _ (p.start + 2 * c.loop-pair.pair) c.in_ok-check_channel.ensures ∙ rw c.pair_energies-format.ensures in
+    let at : p.start + 2 * (c.loop-pair.pair + 1) ≡ p.start + 2 * c.loop-pair.pair + 2 = omega arith in
+    let rows : p.count + 2 * (c.loop-pair.pair + 1) - 1 ≡ p.count + 2 * c.loop-pair.pair - 1 + 2 = omega arith in
+    rw (at, rows)
+    (pair_step c.loop-pair.invariant (omega arith) p.inside c.word-energy.ensures.0 c.word-energy.ensures.1 (c.word-time.ensures.0 ∙ rw next)
+    none c.if-time-channel.false c.with_channel-blocked.ensures c.store_pair.ensures c.store_pair.auto.rows)
 
 pub returns : goal.returns
-returns c = (finish c.loop-i.invariant.0 c.loop-i-test.false, omega (arith, c.loop-i.invariant.0.few))
+returns c =
+    let end : 2 * c.loop-pair.pair ≡ c.args.packet.size = omega (arith, c.requires, c.args.packet.two) in
+    let h = rw end at c.loop-pair.invariant in
+    (finish h (omega arith), omega (arith, c.args.packet.few, c.args.packet.two))

@@ -1,12 +1,9 @@
 -- `content::read_pairs` meets its contract. Assumes nothing.
-use Prim.Native.Nat.{◌-◌, ◌%◌}
-use mathlib.Core.Path.{◌≡◌}
-use Rattle.s800_format.proofs.Formats.{pair_format}
+use Prim.Native.Nat.{◌+◌, ◌*◌, ◌-◌}
 use Rattle.s800_reader.proofs.Runs.{Pairs}
 use Rattle.s800_reader.proofs.content.read_pairs.Given as goal
 
-abbrev pub invariant-loop-i : goal.invariant-loop-i
-invariant-loop-i l = Pairs l.blocked l.words l.end l.from l.first l.initial.rows l.i l.count l.rows × ((l.end - l.i) % 2 ≡ 0) × (l.format ≡ pair_format)
-
-abbrev pub decreases-loop-i : goal.decreases-loop-i
-decreases-loop-i l = l.end - l.i
+abbrev pub invariant-loop-pair : goal.invariant-loop-pair
+invariant-loop-pair l =
+    Pairs l.blocked l.packet.words.now (l.packet.start + l.packet.size) (l.packet.start + 2) (l.packet.count + 1) l.initial.rows
+    (l.packet.start + 2 * l.pair) (l.packet.count + 2 * l.pair - 1) l.rows

@@ -13,7 +13,7 @@ pub loop-i-preserved : goal.loop-i-preserved
 loop-i-preserved c =
     let w = c.word-w.ensures in
     let l = c.loop-i in
-    let good = sym c.follow.ensures ∙ c.if-follow.true in
+    let good = sym c.follow.ensures ∙ c.if-not-follow.false in
     elim c.if-w-ge32768.branch [
       | then-w-ge32768 t ↦ head_moved l.before l.invariant (search rules) c.requires.1 w.0 w.1 good t.if-w-ge32768.true t.head-is
       | else-w-ge32768 t ↦ head_kept l.before l.invariant (search rules) c.requires.1 w.0 w.1 good t.if-w-ge32768.false t.head-is
@@ -23,13 +23,13 @@ pub returns-then-w-lt32768 : goal.returns-then-w-lt32768
 returns-then-w-lt32768 c =
     let w = c.word-w.ensures in
     let l = c.loop-i in
-    datum_breaks l.before l.invariant (search rules) c.requires.1 w.0 w.1 (sym c.follow.ensures ∙ c.if-follow.false) c.if-w-lt32768.true
+    datum_breaks l.before l.invariant (search rules) c.requires.1 w.0 w.1 (sym c.follow.ensures ∙ c.if-not-follow.true) c.if-w-lt32768.true
 
-pub returns-else-follow : goal.returns-else-follow
-returns-else-follow c =
+pub returns-then-not-follow : goal.returns-then-not-follow
+returns-then-not-follow c =
     let w = c.word-w.ensures in
     let l = c.loop-i in
-    head_breaks l.before l.invariant (search rules) c.requires.1 w.0 w.1 (sym c.follow.ensures ∙ c.if-follow.false) c.if-w-lt32768.false
+    head_breaks l.before l.invariant (search rules) c.requires.1 w.0 w.1 (sym c.follow.ensures ∙ c.if-not-follow.true) c.if-w-lt32768.false
 
 pub returns : goal.returns
 returns c = head_last c.loop-i.invariant (omega (arith, c.loop-i.invariant.inside)) c.requires.2

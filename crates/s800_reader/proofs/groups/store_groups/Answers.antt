@@ -2,13 +2,12 @@
 use Prim.Native.Nat.{◌+◌, ◌<◌}
 use native.Mathlib.Omega.{arith}
 use mathlib.Core.Path.{◌≡◌, refl, ap, ◌∙◌}
-use borrow.Author.Rules.{rules}
 use Rattle.event.specs.Rows.{store_row}
 use Rattle.s800_reader.proofs.GroupRows.{picked_below, laid_begin, laid_next, laid_all}
 use Rattle.s800_reader.proofs.groups.store_groups.Goals as goal
 
 pub loop-i-init : goal.loop-i-init
-loop-i-init c = (omega arith, omega arith, refl, laid_begin)
+loop-i-init c = (omega arith, refl, laid_begin)
 
 pub overflow_add-from : goal.overflow_add-from
 overflow_add-from c = omega (arith, c.fitting-most.ensures, c.requires)
@@ -20,7 +19,7 @@ pub overflow_add-first : goal.overflow_add-first
 overflow_add-first c = omega (arith, c.fitting-most.ensures)
 
 pub word_row-requires : goal.word_row-requires
-word_row-requires c = (c.loop-i.invariant.1, c.word-w.ensures.1)
+word_row-requires c = (c.loop-i.invariant.0, c.word-w.ensures.1)
 
 pub loop-i-preserved : goal.loop-i-preserved
 loop-i-preserved c =
@@ -29,12 +28,12 @@ loop-i-preserved c =
     let w = c.word-w.ensures in
     let inside : e.from + c.loop-i.i < e.end = omega (arith, c.fitting-most.ensures) in
     let put = c.store_row.ensures ∙ ap (store_row c.loop-i.rows (e.first + c.loop-i.i)) c.word_row.ensures in
-    (search rules, picked_below c.pick-head.ensures w.1 v.1, c.store_row.auto.rows ∙ v.2, laid_next v.3 inside c.requires.1 w.0 put c.pick-head.ensures)
+    (picked_below c.pick-head.ensures w.1 v.0, c.store_row.auto.rows ∙ v.1, laid_next v.2 inside c.requires.1 w.0 put c.pick-head.ensures)
 
 pub shape_of-rows : goal.shape_of-rows
-shape_of-rows c = c.loop-i.invariant.2
+shape_of-rows c = c.loop-i.invariant.1
 
 pub returns : goal.returns
 returns c =
     let all : c.loop-i.i ≡ c.fitting-most.result = omega arith in
-    laid_all c.loop-i.invariant.3 c.requires.0 (all ∙ c.fitting-most.ensures)
+    laid_all c.loop-i.invariant.2 c.requires.0 (all ∙ c.fitting-most.ensures)

@@ -1,33 +1,39 @@
 -- `head::begin` meets its contract. Assumes nothing.
 use native.Mathlib.Omega.{arith}
-use mathlib.Core.Path.{sym, ◌∙◌}
+use Rattle.std.proofs.lemmas.Result.{err_from_is_err_and}
+use Rattle.event.proofs.Answers.{passed_test, failed_test}
 use Rattle.s800_reader.proofs.Beginning.{frame_size, frame_refused, stamp_refused, number_refused, begins}
 use Rattle.s800_reader.proofs.head.begin.Goals as goal
 
-pub returns-in_default : goal.returns-in_default
-returns-in_default c = frame_refused _ _ c.frame-framed.ensures c.in_default.is
+pub returns-in_err-check_frame : goal.returns-in_err-check_frame
+returns-in_err-check_frame c =
+    let p = err_from_is_err_and c.from_residual.result c.from_residual.ensures.1 in
+    rw (p.1, p.2) (frame_refused _ _ c.in_err-check_frame.ensures)
 
-pub head_fault-stamp_fault-requires : goal.head_fault-stamp_fault-requires
-head_fault-stamp_fault-requires c = omega (arith, frame_size _ _ (sym c.frame-framed.ensures ∙ c.in-Accepted.is))
+pub check_head-requires : goal.check_head-requires
+check_head-requires c = omega (arith, frame_size _ c.in_ok-check_frame.ensures)
 
-pub returns-then-stamp_fault-ne0 : goal.returns-then-stamp_fault-ne0
-returns-then-stamp_fault-ne0 c = stamp_refused _ _ (sym c.frame-framed.ensures ∙ c.in-Accepted.is) c.head_fault-stamp_fault.ensures c.if-stamp_fault-ne0.true c.head_refused.ensures
+pub returns-in_err-check_head : goal.returns-in_err-check_head
+returns-in_err-check_head c =
+    let p = err_from_is_err_and c.from_residual-in_err-check_head.result c.from_residual-in_err-check_head.ensures.1 in
+    rw (p.1, p.2) (stamp_refused _ _ c.in_ok-check_frame.ensures (failed_test _ _ c.in_err-check_head.ensures))
 
-pub head_fault-number_fault-requires : goal.head_fault-number_fault-requires
-head_fault-number_fault-requires c = omega (arith, frame_size _ _ (sym c.frame-framed.ensures ∙ c.in-Accepted.is))
+pub check_head-requires-2 : goal.check_head-requires-2
+check_head-requires-2 c = omega (arith, frame_size _ c.in_ok-check_frame.ensures)
 
-pub returns-then-number_fault-ne0 : goal.returns-then-number_fault-ne0
-returns-then-number_fault-ne0 c =
-    number_refused _ _ (sym c.frame-framed.ensures ∙ c.in-Accepted.is) (λ i. omega (arith, c.type_inv.words i)) (sym c.if-stamp_fault-ne0.false ∙ c.head_fault-stamp_fault.ensures)
-    c.head_fault-number_fault.ensures c.if-number_fault-ne0.true c.head_refused-then-number_fault-ne0.ensures
+pub returns-in_err-check_head-2 : goal.returns-in_err-check_head-2
+returns-in_err-check_head-2 c =
+    let p = err_from_is_err_and c.from_residual-in_err-check_head-2.result c.from_residual-in_err-check_head-2.ensures.1 in
+    rw (p.1, p.2)
+    (number_refused _ _ c.in_ok-check_frame.ensures (λ i. omega (arith, c.type_inv.words i)) (passed_test _ _ c.in_ok-check_head.ensures) (failed_test _ _ c.in_err-check_head-2.ensures))
 
 pub store_stamp-requires : goal.store_stamp-requires
-store_stamp-requires c = frame_size _ _ (sym c.frame-framed.ensures ∙ c.in-Accepted.is)
+store_stamp-requires c = frame_size _ c.in_ok-check_frame.ensures
 
 pub store_number-requires : goal.store_number-requires
-store_number-requires c = frame_size _ _ (sym c.frame-framed.ensures ∙ c.in-Accepted.is)
+store_number-requires c = frame_size _ c.in_ok-check_frame.ensures
 
 pub returns : goal.returns
 returns c =
-    begins _ _ (sym c.frame-framed.ensures ∙ c.in-Accepted.is) (λ i. omega (arith, c.type_inv.words i)) (sym c.if-stamp_fault-ne0.false ∙ c.head_fault-stamp_fault.ensures)
-    (sym c.if-number_fault-ne0.false ∙ c.head_fault-number_fault.ensures) c.store_stamp.ensures c.store_number.ensures
+    begins _ _ c.in_ok-check_frame.ensures (λ i. omega (arith, c.type_inv.words i)) (passed_test _ _ c.in_ok-check_head.ensures) (passed_test _ _ c.in_ok-check_head-2.ensures)
+    c.store_stamp.ensures c.store_number.ensures

@@ -5,13 +5,12 @@ use Rattle.s800_reader.proofs.Reading.{Packets, ChannelRun}
 use Rattle.s800_reader.proofs.scan.scan.Given as goal
 
 abbrev pub invariant-loop-i : goal.invariant-loop-i
-invariant-loop-i l = ChannelRun l.format l.blocked l.words l.end l.initial.i l.initial.count l.initial.rows l.i l.count l.rows × (l.format.base < 2 ^ 16) × (l.end ≤ length l.words)
+invariant-loop-i l =
+    ChannelRun l.channels.format l.blocked l.words l.channels.end l.channels.at l.channels.count l.initial.rows l.i l.count l.rows
+    × (l.channels.format.base < 2 ^ 16) × (l.channels.end ≤ length l.words)
 
-abbrev pub decreases-loop-i : goal.decreases-loop-i
-decreases-loop-i l = l.end - l.i
+abbrev pub invariant-loop-next : goal.invariant-loop-next
+invariant-loop-next l = Packets l.words l.initial.next l.initial.count l.initial.rows l.next l.count l.rows
 
-abbrev pub invariant-packets : goal.invariant-packets
-invariant-packets l = Packets l.words l.initial.i l.initial.count l.initial.rows l.i l.count l.rows
-
-abbrev pub decreases-packets : goal.decreases-packets
-decreases-packets l = length l.words - l.i
+abbrev pub decreases-loop-next : goal.decreases-loop-next
+decreases-loop-next l = length l.words - l.next

@@ -1,14 +1,19 @@
 -- `whole_packets::read_crdc` meets its contract. Assumes nothing.
-use native.Mathlib.Omega.{arith}
+use mathlib.Core.Path.{refl, ap}
+use Rattle.std.proofs.lemmas.Result.{err_from_is_err_and}
+use Rattle.std.specs.Prelude.{Ok}
 use Rattle.s800_reader.proofs.PacketsReadWhole.{crdc_refused, crdc_whole}
 use Rattle.s800_reader.proofs.whole_packets.read_crdc.Goals as goal
 
-pub returns-in_default : goal.returns-in_default
-returns-in_default c k b e s = crdc_refused c.requires.0 c.requires.1 (rw e at c.read_samples-samples.ensures.0) c.in_default.is c.opened.ensures
+pub returns-in_err-samples : goal.returns-in_err-samples
+returns-in_err-samples c b e =
+    let p = err_from_is_err_and c.from_residual.result c.from_residual.ensures.1 in
+    rw (p.1, p.2) (crdc_refused c.requires c.args.packet.inside c.in_err-samples.ensures.0)
 
-pub read_anode-requires : goal.read_anode-requires
-read_anode-requires c = (omega (arith, c.requires.0.least), rw c.in-Accepted.is at c.read_samples-samples.ensures.1)
+pub returns-in_err-count : goal.returns-in_err-count
+returns-in_err-count c b e =
+    let p = err_from_is_err_and c.from_residual-in_err-count.result c.from_residual-in_err-count.ensures.1 in
+    rw (p.1, p.2) (crdc_whole c.requires c.args.packet.inside e c.in_ok-samples.ensures.0 c.in_err-count.ensures refl)
 
 pub returns : goal.returns
-returns c k b e s =
-    crdc_whole c.requires.0 c.requires.1 s (rw e at c.read_samples-samples.ensures.0) c.in-Accepted.is c.read_anode.ensures c.opened-2.ensures
+returns c b e = crdc_whole c.requires c.args.packet.inside e c.in_ok-samples.ensures.0 c.in_ok-count.ensures (ap Ok c.whole.ensures)
