@@ -12,6 +12,7 @@ use Rattle.event.proofs.Impossible.{impossible}
 use Rattle.s800_format.specs.declared.Format.{Format}
 use Rattle.s800_format.specs.Format.{bits_of}
 use Rattle.s800_writer.specs.Rows.{limits_fault, datum_fault, time_fault}
+use Rattle.event.specs.Kind.{number as kind_number}
 
 module _ (k u c d : ℕ) (r : Row) where
   pub limits_kind : (r.kind ≡ k → ⊥) → 21 ≡ limits_fault k u c d r
@@ -48,19 +49,19 @@ small_channel true false c h = h
 small_channel false b c h = let z : false ≡ true = h in impossible cc
 
 module _ (m : Format) (set : ℕ) (r : Row) where
-  pub datum_kind : (r.kind ≡ m.kind → ⊥) → 21 ≡ datum_fault m set r
+  pub datum_kind : (r.kind ≡ kind_number m.kind → ⊥) → 21 ≡ datum_fault m set r
   unfolding datum_fault
-  datum_kind h = rw (ne_eqb m.kind r.kind (λ e. h (sym e)))
+  datum_kind h = rw (ne_eqb (kind_number m.kind) r.kind (λ e. h (sym e)))
 
-  module _ (same : r.kind ≡ m.kind) where
+  module _ (same : r.kind ≡ kind_number m.kind) where
     pub datum_low : r.channel < m.base → 22 ≡ datum_fault m set r
     unfolding datum_fault
-    datum_low h = rw (eq-eqb m.kind r.kind (sym same), lt-leb m.base r.channel h)
+    datum_low h = rw (eq-eqb (kind_number m.kind) r.kind (sym same), lt-leb m.base r.channel h)
 
     module _ (base : m.base ≤ r.channel) {channel end : ℕ} (sub : channel ≡ r.channel - m.base) (e : end ≡ 2 ^ bits_of m) where
       pub datum_bad : (eqb r.unit 0 && ltb channel 16) && ltb r.datum end ≡ false → 22 ≡ datum_fault m set r
       unfolding datum_fault
-      datum_bad h = rw (eq-eqb m.kind r.kind (sym same), le-leb m.base r.channel base, rw (sub, e) at h)
+      datum_bad h = rw (eq-eqb (kind_number m.kind) r.kind (sym same), le-leb m.base r.channel base, rw (sub, e) at h)
 
       module _ (good : (eqb r.unit 0 && ltb channel 16) && ltb r.datum end ≡ true) where
         pub datum_blocked : true ≡ present set (channel % 32) → 22 ≡ datum_fault m set r
@@ -68,11 +69,11 @@ module _ (m : Format) (set : ℕ) (r : Row) where
         datum_blocked h =
             let l = small_channel (eqb r.unit 0) (ltb channel 16) (ltb r.datum end) good in
             let low : channel % 32 ≡ r.channel - m.base = let n = ltb-true channel 16 l in omega arith in
-            rw (eq-eqb m.kind r.kind (sym same), le-leb m.base r.channel base, rw (sub, e) at good, ← rw low at h)
+            rw (eq-eqb (kind_number m.kind) r.kind (sym same), le-leb m.base r.channel base, rw (sub, e) at good, ← rw low at h)
 
         pub datum_good : false ≡ present set (channel % 32) → 0 ≡ datum_fault m set r
         unfolding datum_fault
         datum_good h =
             let l = small_channel (eqb r.unit 0) (ltb channel 16) (ltb r.datum end) good in
             let low : channel % 32 ≡ r.channel - m.base = let n = ltb-true channel 16 l in omega arith in
-            rw (eq-eqb m.kind r.kind (sym same), le-leb m.base r.channel base, rw (sub, e) at good, ← rw low at h)
+            rw (eq-eqb (kind_number m.kind) r.kind (sym same), le-leb m.base r.channel base, rw (sub, e) at good, ← rw low at h)

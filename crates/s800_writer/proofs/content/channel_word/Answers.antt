@@ -8,8 +8,8 @@ overflow_add-result c = omega (arith, rw c.if-format.true at c.requires.1)
 pub returns-then-format : goal.returns-then-format
 returns-then-format c = rw c.if-format.true
 
-pub overflow_add-result-2 : goal.overflow_add-result-2
-overflow_add-result-2 c = omega (arith, rw c.if-format.false at c.requires.1)
+pub overflow_add-result-else-format : goal.overflow_add-result-else-format
+overflow_add-result-else-format c = omega (arith, rw c.if-format.false at c.requires.1)
 
-pub returns : goal.returns
-returns c = rw c.if-format.false
+pub returns-else-format : goal.returns-else-format
+returns-else-format c = rw c.if-format.false
