@@ -30,16 +30,6 @@ vdc_judged begun i w r = go (eqb w (vdc_word (vdc_of w))) (vdc_fits begun (vdc_o
     go true false = refl
     go false b = refl
 
--- its row, field by field
-pub picked_row : (w : ℕ) {h : Bool} {k u c d : ℕ} → h ≡ leb (2 ^ 15) w → k ≡ cond h 35 36 → u ≡ cond h (w % 2 ^ 8) 0 → c ≡ cond h (w / 2 ^ 11 % 2 ^ 3) (w / 2 ^ 10)
-    → d ≡ cond h (w / 2 ^ 8 % 2 ^ 3) (w % 2 ^ 10) → row k u c d ≡ vdc_word_row w
-picked_row w e k u c d = rw (k, u, c, d, e) (go (leb (2 ^ 15) w))
-  where
-    go : (b : Bool) → row (cond b 35 36) (cond b (w % 2 ^ 8) 0) (cond b (w / 2 ^ 11 % 2 ^ 3) (w / 2 ^ 10)) (cond b (w / 2 ^ 8 % 2 ^ 3) (w % 2 ^ 10))
-        ≡ vdc_row (cond b (head (w % 2 ^ 8) (w / 2 ^ 11 % 2 ^ 3) (w / 2 ^ 8 % 2 ^ 3)) (datum (w / 2 ^ 10) (w % 2 ^ 10)))
-    go true = refl
-    go false = refl
-
 -- bit 15 clear: a datum
 module _ (w : ℕ) (low : w < 2 ^ 15) where
   datum_of_lem : vdc_of w ≡ datum (w / 2 ^ 10) (w % 2 ^ 10)

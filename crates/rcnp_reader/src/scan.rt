@@ -7,7 +7,7 @@ ghost use Rattle.rcnp_layout.specs.Reading.{region, at_sum, parts_with, event_pa
 ghost use Rattle.rcnp_reader.specs.Regions.{last_parts};
 
 use crate::Opened;
-use crate::content::{store_chamber, word_row};
+use crate::content::{Chamber, Opaque, WordRow, store_words};
 use crate::region::open_region;
 use crate::word::{at_sum, is_vdc, sum_of, word};
 use event::kind::Kind;
@@ -40,7 +40,7 @@ fn regions(words: &[u16], rows: &mut [u32]) -> Result<Part, Refusal>
                     }
                     begun = true;
                 }
-                store_chamber(words, first, end, rows, count + 1);
+                store_words::<Chamber>(words, first, end, rows, count + 1);
                 at = end;
                 count += 1 + (end - first);
             }
@@ -73,7 +73,7 @@ fn sum_region(words: &[u16], at: usize, rows: &mut [u32], count: usize) -> Resul
         datum: 0,
     };
     store_row(rows, count, row);
-    store_row(rows, count + 1, word_row(word(words, at + 1)));
+    store_row(rows, count + 1, Opaque::row(word(words, at + 1)));
     Ok(count + 2)
 }
 

@@ -13,6 +13,7 @@ use event::kind::Kind;
 use event::rows::{fitting, row_at};
 use event::words::{part_start, store_word};
 use event::{Part, Row};
+use rcnp_format::Form;
 
 // The words of a row, from word `at` on: one, but for a scaler two, its low 16 bits and then the upper 8. The place after them.
 fn store_row(words: &mut [u16], at: usize, row: Row) -> usize
@@ -86,7 +87,7 @@ fn store_run(rows: &[u32], own: Row, first: usize, n: usize, words: &mut [u16], 
     requires { RunAt (of_run own) (rows_in rows.now) first n × (at ≤ 2 * first) }
     ensures { Filled (rows_in rows.now) first (first + n) at (at + n) words.old words.new }
 {
-    if own.unit == rcnp_format::VDC {
+    if own.unit == Form::Vdc as u32 {
         store_chamber(rows, first, n, words, at);
     } else {
         store_words(rows, first, n, words, at);

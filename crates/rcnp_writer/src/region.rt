@@ -11,16 +11,17 @@ use crate::fault::check_header;
 use event::Part;
 use event::refusal::Refusal;
 use event::rows::row_at;
+use rcnp_format::Form;
 
 // The rows of the region with this id and size, whose own row stands before row `first`. (The input register is one word as it is.)
 fn judge_content(rows: &[u32], first: usize, id: u32, size: u32) -> Result<Part, Refusal>
     requires { ContentAt (rows_in rows.now) first id size }
     ensures { Counts (content_words (form_of id)) (content (form_of id) size first (drop first (rows_in rows.now))) (rows_in rows.now) 1 result }
 {
-    if id == rcnp_format::SCALER {
+    if id == Form::Scaler as u32 {
         return judge_scalers(rows, first, size / 2);
     }
-    if id == rcnp_format::VDC {
+    if id == Form::Vdc as u32 {
         return judge_chamber(rows, first, size);
     }
     judge_words(rows, first, size)

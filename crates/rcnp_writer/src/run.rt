@@ -5,6 +5,7 @@ ghost use Rattle.rcnp_writer.specs.Parts.{run_words};
 
 use event::Row;
 use event::kind::Kind;
+use rcnp_format::Form;
 
 // How many rows of one word each follow a region's own row: as many as its size says, but for scalers.
 pub(crate) fn run_words(row: Row) -> usize
@@ -13,7 +14,7 @@ pub(crate) fn run_words(row: Row) -> usize
     if row.kind != Kind::Region as u32 {
         return 0;
     }
-    if row.unit == rcnp_format::SCALER {
+    if row.unit == Form::Scaler as u32 {
         return 0;
     }
     row.channel as usize

@@ -11,6 +11,7 @@ use crate::word::{field_word, vdc_word};
 use event::Row;
 use event::kind::Kind;
 use event::rows::row_at;
+use rcnp_format::Form;
 
 // The sum of the words that a row says. Most rows are words as they are.
 fn row_total(row: Row) -> usize
@@ -55,7 +56,7 @@ fn sum_run(rows: &[u32], own: Row, first: usize, n: usize) -> usize
     requires { RunAt (of_run own) (rows_in rows.now) first n }
     ensures { Summed (rows_in rows.now) first (first + n) result }
 {
-    if own.unit == rcnp_format::VDC {
+    if own.unit == Form::Vdc as u32 {
         return sum_chamber(rows, first, n);
     }
     sum_words(rows, first, n)

@@ -59,6 +59,6 @@ pub regions-preserved : goal.regions-preserved
 regions-preserved c =
     let chamber = opened_chamber c.in_ok-read.ensures c.in-Chamber.is in
     let so_far = c.regions.invariant in
-    let taken = chamber_taken chamber so_far.few (vdc_read c.loop-i.invariant.0 c.loop-i-test.false) c.store_chamber.ensures in
+    let taken = chamber_taken chamber so_far.few (vdc_read c.loop-i.invariant.0 c.loop-i-test.false) c.store_words.ensures in
     let n : c.regions.count + 1 + (c.in-Chamber.end - (c.regions.at + 1)) ≡ c.regions.count + (1 + (c.in-Chamber.end - (c.regions.at + 1))) = omega arith in
     rw n at (region_taken so_far (sym c.if-at_sum.false ∙ c.at_sum.ensures) taken)
