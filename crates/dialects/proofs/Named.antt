@@ -46,7 +46,7 @@ kept_of_rows : (n : ℕ) → 20 ≤ n → n ≤ 24 → Kept n
 unfolding holds_below fault_of
 kept_of_rows = kept_between 20 24 tt
 
-of_reading : (d : Dialect) (o : StampOrder) (ws : List ℕ) (n k : ℕ) → reading d o ws ≡ refused n k → Kept n
+pub of_reading : (d : Dialect) (o : StampOrder) (ws : List ℕ) (n k : ℕ) → reading d o ws ≡ refused n k → Kept n
 of_reading S o ws n k e = let h = RefusalsS.refusals o ws n k e in kept_of_s n h.0 h.1
 of_reading F o ws n k e = kept_of_f n (RefusalsF.refusals ws n k e).0
 of_reading R o ws n k e = kept_of_r n (RefusalsR.refusals ws n k e).0
