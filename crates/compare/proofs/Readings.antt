@@ -39,7 +39,7 @@ module _ (bits : ℕ) (d : Dialect) (o : StampOrder) (ws buffer : List ℕ) (lar
   few : (rs : List Row) → read ≡ done rs → length rs ≤ largest_rows
   few = rows_within_largest d o (cond (eqb (width d) bits) ws [])
 
-  whole : in_room (room (length buffer)) read ≡ read
+  pub whole : in_room (room (length buffer)) read ≡ read
   whole = go read refl
     where
       go : (x : Outcome Row) → read ≡ x → in_room (room (length buffer)) x ≡ x
