@@ -14,7 +14,7 @@ use Rattle.event.specs.declared.StampOrder.{StampOrder}
 use Rattle.event.specs.declared.refusal.Refusal.{Refusal}
 use Rattle.event.specs.Outcome.{Outcome, done, refused, in_room, limited, answer_of, given, overlaid}
 use Rattle.event.specs.Refusal.{Answer}
-use Rattle.event.specs.Rows.{flat, flat_row, room}
+use Rattle.event.specs.Rows.{flat, room}
 use Rattle.event.specs.Writing.{rows_in, is_same_row}
 use Rattle.event.proofs.Answers.{RefusedBy, Given, refused_by, given_by}
 use Rattle.event.proofs.RowCodes.{flat_in}

@@ -1,6 +1,6 @@
 -- The entries of a list put as lines of text, one behind another: over words and rows.
 -- Assumes nothing.
-use Prim.Native.Nat.{ℕ, ◌+◌, ◌*◌, ◌/◌, ◌≤◌, ◌<◌}
+use Prim.Native.Nat.{ℕ, ◌+◌, ◌*◌, ◌/◌, ◌<◌}
 use native.Mathlib.Nat.{mul-suc, add-div_left}
 use native.Mathlib.Numerals.{add-one}
 use native.Mathlib.Omega.{arith}

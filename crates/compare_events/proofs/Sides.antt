@@ -3,9 +3,7 @@
 use Prim.Native.Nat.{ℕ, ◌+◌, ◌*◌, ◌/◌, ◌≤◌}
 use native.Mathlib.Omega.{arith}
 use mathlib.Core.Path.{◌≡◌, refl, ap, ◌∙◌}
-use mathlib.Core.Bool.{cond}
 use mathlib.Core.List.{List}
-use lib.Dec.{ltb}
 use Rattle.std.specs.Prelude.{Result, Ok}
 use lib.ListN.{length, take, drop}
 use lib.Seq.{take_at, length-take-le}
@@ -19,7 +17,7 @@ use Rattle.dialects.specs.declared.Dialect.{Dialect}
 use Rattle.dialects.specs.declared.Dialect.TheVariants.{S}
 use Rattle.dialects.specs.Dialects.{width, reading, largest_rows}
 use Rattle.hex_line.specs.Line.{most_words}
-use Rattle.hex_line.specs.Text.{text, Placed}
+use Rattle.hex_line.specs.Text.{Placed}
 use Rattle.hex_line.proofs.TextLaws.{placed_then}
 use Rattle.comparison.specs.declared.Listed.{Listed}
 use Rattle.comparison.specs.Comparing.{Comparison, listed, differing_words, differing_rows, rows_apart, word_entries, row_entries, compared, written}
@@ -27,7 +25,7 @@ use Rattle.comparison.specs.Differences.{Difference, tail_of}
 use Rattle.comparison.proofs.Entries.{entries_length}
 use Rattle.compare_events.specs.Lengths.{word_length, tail_length, rows_length, last_length, compared_length}
 use Rattle.compare_events.specs.Print.{compared_text}
-use Rattle.compare_events.specs.Text.{word_text, tail_lines, tail_text, rows_text, end_text}
+use Rattle.compare_events.specs.Text.{word_text, tail_text, rows_text, end_text}
 use Rattle.compare_events.proofs.Sizes.{few_rows_apart, tail_text_most, own_rows, words_and_tail, both_listed_lem}
 use Rattle.compare_events.proofs.TextLaws.{word_length_lem, rows_length_lem, each_length}
 

@@ -60,7 +60,15 @@ fn put_lines(order: StampOrder, first: &[u8], second: &[u8], text: &mut [u8]) ->
     }
     let mut longwords = [0u32; MOST_LONGWORDS];
     let mut otherlongs = [0u32; MOST_LONGWORDS];
-    put_by(dialect, order, first, second, &mut longwords, &mut otherlongs, text)
+    put_by(
+        dialect,
+        order,
+        first,
+        second,
+        &mut longwords,
+        &mut otherlongs,
+        text,
+    )
 }
 
 // The same by way of room for the words of any line, twice.

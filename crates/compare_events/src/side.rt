@@ -58,7 +58,13 @@ fn put_by<W: EventWord>(
     let middle = put_words(text, at, &words[..a]);
     let more = put_tail(text, middle, first, second);
     let end = put_rows(text, more, &rows[..b]);
-    put_end(text, end, listed.words, tail(first, second).len(), listed.rows)
+    put_end(
+        text,
+        end,
+        listed.words,
+        tail(first, second).len(),
+        listed.rows,
+    )
 }
 
 // Puts the tail of two events: that of the second, or else of the first.

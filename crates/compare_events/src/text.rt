@@ -99,7 +99,13 @@ pub(crate) fn put_rows(text: &mut [u8], at: usize, list: &[u32]) -> usize
 {
     let mut end = at;
     for entry in list.chunks_exact(9) {
-        end = put_both(text, end, entry[0], row_at(&entry[1..], 0), row_at(&entry[5..], 0));
+        end = put_both(
+            text,
+            end,
+            entry[0],
+            row_at(&entry[1..], 0),
+            row_at(&entry[5..], 0),
+        );
     }
     end
 }

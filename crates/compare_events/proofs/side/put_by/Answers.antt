@@ -2,7 +2,6 @@
 use native.Mathlib.Omega.{arith}
 use mathlib.Core.Path.{sym, ap, ◌∙◌}
 use lib.ListN.{length}
-use Rattle.event.proofs.Impossible.{impossible}
 use Rattle.dialects.specs.Dialects.{reading}
 use Rattle.comparison.specs.Comparing.{differing_words, differing_rows}
 use Rattle.compare_events.proofs.Numbers.{numbers_length, numbers_tail}

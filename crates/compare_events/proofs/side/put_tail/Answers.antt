@@ -1,10 +1,8 @@
 -- `side::put_tail` meets its contract. Assumes nothing.
-use Prim.Native.Nat.{◌≤◌}
 use native.Mathlib.Omega.{arith}
-use mathlib.Core.Path.{◌≡◌, refl, sym, ap, ◌∙◌}
+use mathlib.Core.Path.{◌≡◌, sym, ap, ◌∙◌}
 use lib.ListN.{length}
 use borrow.Author.Tests.{lt-ltb, le-ltb}
-use Rattle.hex_line.specs.Text.{Placed}
 use Rattle.comparison.specs.Differences.{tail_of}
 use Rattle.compare_events.specs.Text.{tail_text}
 use Rattle.compare_events.proofs.Numbers.{numbers_length, numbers_tail}
