@@ -8,7 +8,7 @@ use compare::EventWord;
 use dialects::Dialect;
 use event::refusal::Refusal;
 
-pub trait LineWord: EventWord {
+pub(crate) trait LineWord: EventWord {
     // The words of a line of a dialect of this width, at the front of room for the words of any line: so 24 never shows.
     fn words_of<'a>(
         dialect: Dialect,
