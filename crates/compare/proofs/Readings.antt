@@ -14,7 +14,7 @@ use Rattle.event.specs.declared.StampOrder.{StampOrder}
 use Rattle.event.specs.declared.refusal.Refusal.{Refusal}
 use Rattle.event.specs.Outcome.{Outcome, done, refused, in_room, limited, answer_of, given, overlaid}
 use Rattle.event.specs.Refusal.{Answer}
-use Rattle.event.specs.Rows.{flat, flat_row, room}
+use Rattle.event.specs.Rows.{flat, room}
 use Rattle.event.specs.Writing.{rows_in, is_same_row}
 use Rattle.event.proofs.Answers.{RefusedBy, Given, refused_by, given_by}
 use Rattle.event.proofs.RowCodes.{flat_in}
@@ -39,7 +39,7 @@ module _ (bits : ℕ) (d : Dialect) (o : StampOrder) (ws buffer : List ℕ) (lar
   few : (rs : List Row) → read ≡ done rs → length rs ≤ largest_rows
   few = rows_within_largest d o (cond (eqb (width d) bits) ws [])
 
-  whole : in_room (room (length buffer)) read ≡ read
+  pub whole : in_room (room (length buffer)) read ≡ read
   whole = go read refl
     where
       go : (x : Outcome Row) → read ≡ x → in_room (room (length buffer)) x ≡ x

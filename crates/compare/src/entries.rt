@@ -12,9 +12,7 @@ pub(crate) fn put_words(list: &mut [u64], k: usize, index: u64, x: u64, y: u64)
     ensures { list.new ≡ sets list.old (3 * k) (index ∷ x ∷ y ∷ []) }
 {
     let at = 3 * k;
-    list[at] = index;
-    list[at + 1] = x;
-    list[at + 2] = y;
+    list[at..at + 3].copy_from_slice(&[index, x, y]);
 }
 
 // Entry k of the list becomes the index and both rows.
@@ -23,13 +21,7 @@ pub(crate) fn put_rows(list: &mut [u32], k: usize, index: u32, r: Row, s: Row)
     ensures { list.new ≡ sets list.old (9 * k) (entry flat_row (difference index r s)) }
 {
     let at = 9 * k;
-    list[at] = index;
-    list[at + 1] = r.kind;
-    list[at + 2] = r.unit;
-    list[at + 3] = r.channel;
-    list[at + 4] = r.datum;
-    list[at + 5] = s.kind;
-    list[at + 6] = s.unit;
-    list[at + 7] = s.channel;
-    list[at + 8] = s.datum;
+    list[at..at + 9].copy_from_slice(&[
+        index, r.kind, r.unit, r.channel, r.datum, s.kind, s.unit, s.channel, s.datum,
+    ]);
 }

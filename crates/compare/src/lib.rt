@@ -10,12 +10,11 @@ ghost use Rattle.std.specs.Prelude.{◌≡◌, length};
 ghost use Rattle.comparison.specs.Differences.{tail_of};
 ghost use Rattle.comparison.specs.Comparing.{differing_words, word_entries, row_entries, rows_apart, compared, written};
 
-pub use event_word::EventWord;
-
 use comparison::Listed;
 use dialects::Dialect;
 use event::StampOrder;
 use event::refusal::{Fault, Refusal, refuse};
+pub use event_word::EventWord;
 
 // Lists the differing words of two events and, if both are acceptable events of the dialect, their differing rows. On a refusal neither list is written.
 pub fn compare<W: EventWord>(

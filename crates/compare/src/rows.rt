@@ -95,6 +95,7 @@ fn fill(first: &[u32], second: &[u32], list: &mut [u32])
     ensures { list.new ≡ overlaid (row_entries (differences is_same_row (rows_in first.now) (rows_in second.now))) list.old }
 {
     let shared = first.len().min(second.len()) / 4;
+    // As for words.
     let mut found: usize = 0;
     for i in 0..shared {
         let r = row_at(first, i);

@@ -28,6 +28,7 @@ pub(crate) fn fill<W: EventWord>(first: &[W], second: &[W], list: &mut [u64])
     requires { 3 * length (differing_words (W.numbers first.now) (W.numbers second.now)) ≤ length list.old }
     ensures { list.new ≡ overlaid (word_entries (differing_words (W.numbers first.now) (W.numbers second.now))) list.old }
 {
+    // Counted here: a loop over pairs that a chain filters gets no proof in a generic function.
     let mut found: usize = 0;
     for (i, (x, y)) in first.iter().zip(second).enumerate() {
         if differ(x, y) {

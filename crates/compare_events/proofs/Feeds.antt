@@ -1,20 +1,21 @@
 -- The line feeds of what was read, read by read.
 -- Assumes nothing.
 use Prim.Native.Nat.{ℕ, zero, suc, ◌+◌, ◌-◌, ◌≤◌, ◌<◌}
-use native.Mathlib.Nat.{min-le_right}
 use native.Mathlib.Omega.{arith}
-use native.Mathlib.Numerals.{add-one}
-use mathlib.Core.Path.{◌≡◌, refl, ap, ◌∙◌}
+use mathlib.Core.Path.{◌≡◌, refl, sym, ap, ◌∙◌}
 use mathlib.Core.Bool.{Bool, true, false, cond}
 use mathlib.Core.List.{List, [], ◌∷◌, ◌++◌}
 use lib.Dec.{eqb}
-use lib.IntN.{ℤ, pos, negsuc}
-use lib.ListN.{length, get_or, take, drop, length-append, length-take, length-drop}
-use lib.Signed.{lt_z}
-use lib.Seq.{take-add, take-suc, length-take-le}
-use borrow.Author.Tests.{eqb-true, eq-eqb, ne_eqb}
+use lib.ListN.{length, take, drop, length-append, length-take, length-drop}
+use lib.Seq.{take-add, length-take-le}
+use Rattle.std.specs.Prelude.{Result, Ok, Err, IfSome}
+use Rattle.std.specs.Io.{ReadsAtMost}
+use Rattle.std.specs.Result.{result_ok}
+use Rattle.std.specs.List.{filter}
+use Rattle.std.proofs.lemmas.List.Recursion.{is_count_by}
+use Rattle.std.proofs.lemmas.List.Sums.{length-filter}
+use borrow.Author.Tests.{eqb-true}
 use borrow.Rule.Slice.PartMut.{put_mid, take_put}
-use Rattle.io.specs.Counts.{clamp_len}
 use Rattle.event.proofs.Impossible.{impossible}
 use Rattle.event.proofs.WordStores.{part_lent, part_back}
 use Rattle.compare_events.specs.declared.input.Gathered.{Gathered}
@@ -39,27 +40,10 @@ feeds_few (c ∷ s) = go (eqb c 10) (feeds_few s)
     go true h = omega arith
     go false h = omega arith
 
-pub clamped_most : (z : ℤ) (most : ℕ) → clamp_len z most ≤ most
-clamped_most (pos k) most = min-le_right k most
-clamped_most (negsuc k) most = omega arith
-
--- a number as the machine has it is the number
-pub after_told : (state : Gathered) (got : ℤ) (part : List ℕ) {k f : ℕ} {z : ℤ} → z ≡ got → k ≡ clamp_len z (length part) → f ≡ feeds_in (take k part)
-    → record { end = state.end + k; feeds = state.feeds + f; last = k; failed = lt_z z (pos 0) } ≡ after_read state got part
-after_told state got part h e g = rw (g, e, h)
-
--- one character more
-module _ (s : List ℕ) (i : ℕ) (h : i < length s) where
-  one_more : take (i + 1) s ≡ take i s ++ (get_or s i 0 ∷ [])
-  one_more = rw (add-one i) (take-suc s i 0 h)
-
-  pub feeds_more : {n : ℕ} → get_or s i 0 ≡ 10 → n ≡ feeds_in (take i s) → n + 1 ≡ feeds_in (take (i + 1) s)
-  unfolding feeds_in
-  feeds_more e f = rw (one_more, feeds_append, eq-eqb (get_or s i 0) 10 e) (omega (arith, f))
-
-  pub feeds_same : {n : ℕ} → (get_or s i 0 ≡ 10 → ⊥) → n ≡ feeds_in (take i s) → n ≡ feeds_in (take (i + 1) s)
-  unfolding feeds_in
-  feeds_same e f = rw (one_more, feeds_append, ne_eqb (get_or s i 0) 10 e) (omega (arith, f))
+-- counted as a chain counts them
+pub feeds_counted : (s : List ℕ) → feeds_in s ≡ length (filter (λ c. eqb c 10) s)
+unfolding feeds_in
+feeds_counted s = is_count_by feeds_in (λ c. eqb c 10) refl (λ c s. let e : suc (feeds_in s) ≡ 1 + feeds_in s = omega arith in rw e) s ∙ sym (length-filter (λ c. eqb c 10) s)
 
 -- characters read behind those that were there
 length_take_most : (k : ℕ) (l : List ℕ) → length (take k l) ≤ k
@@ -76,27 +60,34 @@ module _ {b : List ℕ} {state : Gathered} (i : Inside b state) (part : List ℕ
       ∙ length-append (take state.end b) part
       ∙ omega (arith, length-take-le state.end b i.ends, l, ap length (part_lent state.end b), length-drop state.end b, i.ends)
 
-  pub more_read : (got : ℤ) → length part ≡ length (take (length b - state.end) (drop state.end b))
-      → Inside after (after_read state got (take (length after - state.end) (drop state.end after)))
-  more_read got l =
-      let new = take (length after - state.end) (drop state.end after) in
-      let k = clamp_len got (length new) in
-      let few = clamped_most got (length new) in
-      let within : state.end + k ≤ length after =
-      omega (arith, few, ap length (part_lent state.end after), length-drop state.end after, after_length l, i.ends) in
-      let counted : feeds_in (take k new) ≡ feeds_in (take k (drop state.end after)) = ap (λ (s : List ℕ). feeds_in (take k s)) (part_lent state.end after) in
-      record {
-        ends = within;
-        fed = rw (take-add state.end k after, feeds_append, take_put state.end (length b - state.end) b part i.ends) (omega (arith, counted, i.fed));
-        few = omega (arith, feeds_few (take k new), length_take_most k new, i.few);
-      }
+  module _ (l : length part ≡ length (take (length b - state.end) (drop state.end b))) where
+    abbrev new : List ℕ
+    new = take (length after - state.end) (drop state.end after)
+
+    new_length : length new ≡ length part
+    new_length = omega (arith, ap length (part_lent state.end after), length-drop state.end after, after_length l, i.ends, l, ap length (part_lent state.end b), length-drop state.end b)
+
+    counted : (k : ℕ) → k ≤ length part → Inside after (record { end = state.end + k; feeds = state.feeds + feeds_in (take k new); last = k })
+    counted k most =
+        let same : feeds_in (take k new) ≡ feeds_in (take k (drop state.end after)) = ap (λ (s : List ℕ). feeds_in (take k s)) (part_lent state.end after) in
+        record {
+          ends = omega (arith, most, new_length, ap length (part_lent state.end after), length-drop state.end after, after_length l, i.ends);
+          fed = rw (take-add state.end k after, feeds_append, take_put state.end (length b - state.end) b part i.ends) (omega (arith, same, i.fed));
+          few = omega (arith, feeds_few (take k new), length_take_most k new, i.few);
+        }
+
+    -- a read into the part, which may have failed
+    pub more_read : {E : Type 0} (read : Result ℕ E) → ReadsAtMost read part
+        → IfSome (after_read state (result_ok read) new) (λ next. Inside after next × (next.end ≡ state.end + next.last))
+    more_read (Ok k) h = (counted k h.0, refl)
+    more_read (Err e) h = tt
 
 positive : (n : ℕ) → eqb n 0 ≡ false → 0 < n
 positive zero e = impossible cc
 positive (suc n) e = omega arith
 
 -- nothing read yet
-pub none_read : (b : List ℕ) → Inside b (record { end = 0; feeds = 0; last = 1; failed = false })
+pub none_read : (b : List ℕ) → Inside b (record { end = 0; feeds = 0; last = 1 })
 unfolding feeds_in
 none_read b = record { ends = omega arith; fed = refl; few = omega arith }
 

@@ -1,9 +1,10 @@
+pub mod Numbers
 pub mod TextLaws
 pub mod Lists
 pub mod Sizes
+pub mod Sides
 pub mod Feeds
 pub mod InputLines
 pub mod Enough
-pub mod Sides
-pub mod LineLaws
 pub mod Example
+pub mod LineLaws

@@ -1,57 +1,81 @@
 -- The entries of a list put as lines of text, one behind another: over words and rows.
 -- Assumes nothing.
-use Prim.Native.Nat.{ℕ, ◌+◌, ◌*◌, ◌/◌, ◌≤◌, ◌<◌}
-use native.Mathlib.Nat.{mul-suc}
+use Prim.Native.Nat.{ℕ, ◌+◌, ◌*◌, ◌/◌, ◌<◌}
+use native.Mathlib.Nat.{mul-suc, add-div_left}
 use native.Mathlib.Numerals.{add-one}
 use native.Mathlib.Omega.{arith}
-use mathlib.Core.Path.{◌≡◌, refl, ap, ◌∙◌}
-use mathlib.Core.List.{List}
-use lib.ListN.{length, get_or, take}
-use lib.Seq.{take_all}
-use Rattle.event.specs.declared.Row.{Row}
+use mathlib.Core.Path.{◌≡◌, refl, sym, ap, ◌∙◌}
+use mathlib.Core.List.{List, [], ◌∷◌, ◌++◌, append_assoc, append-nil}
+use lib.ListN.{length, take, drop, length-append}
+use lib.Seq.{take_at}
+use Rattle.std.proofs.lemmas.List.{drop_at}
 use Rattle.event.specs.Parser.{each}
-use Rattle.event.specs.Rows.{flat_row}
-use Rattle.event.specs.Words.{word_alone}
+use Rattle.event.proofs.Elements.{each_append}
 use Rattle.hex_line.specs.Text.{Placed}
 use Rattle.hex_line.proofs.TextLaws.{placed_none, placed_then}
-use Rattle.comparison.specs.Comparing.{word_entries, row_entries}
-use Rattle.comparison.specs.Differences.{Difference}
-use Rattle.comparison.proofs.Entries.{entries_length}
-use Rattle.compare_events.proofs.TextLaws.{each_next}
+use Rattle.comparison.specs.Differences.{Difference, entry, entries}
 
--- of `count` entries of a list the first i are put, as lines of n characters each
-pub record Putting {A : Type 0} (line : A → List ℕ) (n : ℕ) (entriesOf : List A → List ℕ) (list : List ℕ) (count : ℕ) (text₀ : List ℕ) (at : ℕ) (text : List ℕ)
-    (end i : ℕ) : Type 0 where
-  pub within : i ≤ count
-  pub size : length text ≡ length text₀
-  pub ends : end ≡ at + n * i
-  pub put : (ds : List A) → list ≡ entriesOf ds → Placed text₀ at (each line (take i ds)) end text
+-- entries of w numbers each
+module _ {A : Type 0} (numbers : A → List ℕ) (w : ℕ) (size : (d : Difference A) → length (entry numbers d) ≡ w) where
+  -- of those in a list some are put as lines, and `rest` is left of it
+  pub record Part (line : Difference A → List ℕ) (text₀ : List ℕ) (at : ℕ) (text : List ℕ) (end : ℕ) (rest : List ℕ) (ds : List (Difference A)) : Type 0 where
+    pub done : List (Difference A)
+    pub left : List (Difference A)
+    pub both : ds ≡ done ++ left
+    pub entries_left : rest ≡ entries numbers left
+    pub placed : Placed text₀ at (each line done) end text
 
-pub put_start : {A : Type 0} (line : A → List ℕ) (n : ℕ) (entriesOf : List A → List ℕ) (list : List ℕ) (count : ℕ) (text : List ℕ) (at : ℕ)
-    → Putting line n entriesOf list count text at text at 0
-put_start line n entriesOf list count text at = record { within = omega arith; size = refl; ends = omega arith; put = λ ds e. placed_none text at }
+  -- lines of n characters each
+  pub record Putting (line : Difference A → List ℕ) (n : ℕ) (list text₀ : List ℕ) (at : ℕ) (text : List ℕ) (end : ℕ) (rest : List ℕ) : Type 0 where
+    pub whole : length text ≡ length text₀
+    pub ends : end + n * (length rest / w) ≡ at + n * (length list / w)
+    pub put : (ds : List (Difference A)) → list ≡ entries numbers ds → Part line text₀ at text end rest ds
 
-module _ {A : Type 0} {line : A → List ℕ} {n : ℕ} {entriesOf : List A → List ℕ} {list : List ℕ} {count : ℕ} {text₀ : List ℕ} {at : ℕ} {text : List ℕ} {end i : ℕ}
-    (p : Putting line n entriesOf list count text₀ at text end i) (counted : (ds : List A) → list ≡ entriesOf ds → count ≡ length ds) where
-  -- one more
-  pub put_next : (z : A) → i < count → {x : A} → length (line x) ≡ n → ((ds : List A) → list ≡ entriesOf ds → i < length ds → x ≡ get_or ds i z)
-      → {text' : List ℕ} {end' : ℕ} → length text' ≡ length text → Placed text end (line x) end' text' → Putting line n entriesOf list count text₀ at text' end' (i + 1)
-  put_next z h {x} l same {text'} {end'} s q = record {
-    within = omega arith;
-    size = s ∙ p.size;
-    ends = q.ends ∙ rw (p.ends, l, add-one, mul-suc) (omega arith);
-    put = λ ds e.
-        let k : i < length ds = omega (arith, counted ds e) in
-        rw (each_next line ds i z k) (placed_then (p.put ds e) (rw (same ds e k) at q));
-  }
+  pub put_start : (line : Difference A → List ℕ) (n : ℕ) (list text : List ℕ) (at : ℕ) → Putting line n list text at text at list
+  put_start line n list text at = record { whole = refl; ends = refl; put = λ ds e. record { done = []; left = ds; both = refl; entries_left = e; placed = placed_none text at } }
 
-  -- all of them
-  pub put_done : count ≤ i → (ds : List A) → list ≡ entriesOf ds → Placed text₀ at (each line ds) end text
-  put_done h ds e = rw (take_all i ds (omega (arith, counted ds e))) at (p.put ds e)
+  module _ {line : Difference A → List ℕ} {n : ℕ} {list text₀ : List ℕ} {at : ℕ} {text : List ℕ} {end : ℕ} {rest : List ℕ} (p : Putting line n list text₀ at text end rest) where
+    -- the next entry
+    pub put_next : {x rest' : List ℕ} → rest ≡ x ++ rest' → length x ≡ w → 0 < w → {y : Difference A} → length (line y) ≡ n → ((d : Difference A) → x ≡ entry numbers d → y ≡ d)
+        → {text' : List ℕ} {end' : ℕ} → length text' ≡ length text → Placed text end (line y) end' text' → Putting line n list text₀ at text' end' rest'
+    put_next {x} {rest'} e l positive {y} k same {text'} {end'} s q = record {
+      whole = s ∙ p.whole;
+      ends = ends_there;
+      put = λ ds f. go ds (p.put ds f);
+    }
+      where
+        more : length rest / w ≡ length rest' / w + 1
+        more = rw (e, length-append, l) (add-div_left (length rest') positive)
 
--- how many entries a list holds
-pub words_counted : {list : List ℕ} (ds : List (Difference ℕ)) → list ≡ word_entries ds → length list / 3 ≡ length ds
-words_counted ds e = omega (arith, ap length e, entries_length word_alone 3 (λ d. refl) ds)
+        ends_there : end' + n * (length rest' / w) ≡ at + n * (length list / w)
+        ends_there = omega (arith, q.ends, k, rw (more, add-one, mul-suc) at p.ends)
 
-pub rows_counted : {list : List ℕ} (ds : List (Difference Row)) → list ≡ row_entries ds → length list / 9 ≡ length ds
-rows_counted ds e = omega (arith, ap length e, entries_length flat_row 9 (λ d. refl) ds)
+        front : (d : Difference A) (left : List (Difference A)) → rest ≡ entry numbers d ++ entries numbers left → x ≡ entry numbers d
+        front d left f = sym (take_at x rest' w l) ∙ ap (take w) (sym e ∙ f) ∙ take_at (entry numbers d) (entries numbers left) w (size d)
+
+        behind : (d : Difference A) (left : List (Difference A)) → rest ≡ entry numbers d ++ entries numbers left → rest' ≡ entries numbers left
+        behind d left f = sym (drop_at x rest' w l) ∙ ap (drop w) (sym e ∙ f) ∙ drop_at (entry numbers d) (entries numbers left) w (size d)
+
+        go : (ds : List (Difference A)) → Part line text₀ at text end rest ds → Part line text₀ at text' end' rest' ds
+        go ds r = split r.left r.both r.entries_left
+          where
+            split : (left : List (Difference A)) → ds ≡ r.done ++ left → rest ≡ entries numbers left → Part line text₀ at text' end' rest' ds
+            split [] b f = absurd (omega (arith, ap length (sym e ∙ f), length-append x rest'))
+            split (d ∷ left) b f = record {
+              done = r.done ++ (d ∷ []);
+              left = left;
+              both = b ∙ sym (append_assoc r.done (d ∷ []) left);
+              entries_left = behind d left f;
+              placed = rw (each_append line r.done (d ∷ []), append-nil (line d)) (placed_then r.placed (rw (same d (front d left f)) at q));
+            }
+
+    -- all of them
+    pub put_done : length rest < w → (ds : List (Difference A)) → list ≡ entries numbers ds → Placed text₀ at (each line ds) end text
+    put_done few ds f = go (p.put ds f)
+      where
+        go : Part line text₀ at text end rest ds → Placed text₀ at (each line ds) end text
+        go r = split r.left r.both r.entries_left
+          where
+            split : (left : List (Difference A)) → ds ≡ r.done ++ left → rest ≡ entries numbers left → Placed text₀ at (each line ds) end text
+            split [] b f = rw (b, append-nil r.done) r.placed
+            split (d ∷ left) b f = absurd (omega (arith, ap length f, length-append (entry numbers d) (entries numbers left), size d))

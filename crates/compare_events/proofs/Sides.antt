@@ -3,9 +3,8 @@
 use Prim.Native.Nat.{ℕ, ◌+◌, ◌*◌, ◌/◌, ◌≤◌}
 use native.Mathlib.Omega.{arith}
 use mathlib.Core.Path.{◌≡◌, refl, ap, ◌∙◌}
-use mathlib.Core.Bool.{cond}
 use mathlib.Core.List.{List}
-use lib.Dec.{ltb}
+use Rattle.std.specs.Prelude.{Result, Ok}
 use lib.ListN.{length, take, drop}
 use lib.Seq.{take_at, length-take-le}
 use Rattle.event.specs.declared.Row.{Row}
@@ -18,18 +17,20 @@ use Rattle.dialects.specs.declared.Dialect.{Dialect}
 use Rattle.dialects.specs.declared.Dialect.TheVariants.{S}
 use Rattle.dialects.specs.Dialects.{width, reading, largest_rows}
 use Rattle.hex_line.specs.Line.{most_words}
-use Rattle.hex_line.specs.Text.{text, Placed}
+use Rattle.hex_line.specs.Text.{Placed}
 use Rattle.hex_line.proofs.TextLaws.{placed_then}
-use Rattle.comparison.specs.declared.Comparison.{Comparison}
-use Rattle.comparison.specs.declared.Comparison.TheVariants.{Listed}
-use Rattle.comparison.specs.Comparing.{differing_words, differing_rows, rows_apart, word_entries, row_entries, compared, written}
+use Rattle.comparison.specs.declared.Listed.{Listed}
+use Rattle.comparison.specs.Comparing.{Comparison, listed, differing_words, differing_rows, rows_apart, word_entries, row_entries, compared, written}
 use Rattle.comparison.specs.Differences.{Difference, tail_of}
 use Rattle.comparison.proofs.Entries.{entries_length}
 use Rattle.compare_events.specs.Lengths.{word_length, tail_length, rows_length, last_length, compared_length}
 use Rattle.compare_events.specs.Print.{compared_text}
-use Rattle.compare_events.specs.Text.{word_text, tail_lines, tail_text, rows_text, end_text}
+use Rattle.compare_events.specs.Text.{word_text, tail_text, rows_text, end_text}
 use Rattle.compare_events.proofs.Sizes.{few_rows_apart, tail_text_most, own_rows, words_and_tail, both_listed_lem}
 use Rattle.compare_events.proofs.TextLaws.{word_length_lem, rows_length_lem, each_length}
+
+same_ok : {A E : Type 0} {r : Result A E} {x y : A} → r ≡ Ok x → r ≡ Ok y → x ≡ y
+same_ok e f = cc
 
 module _ (d : Dialect) (o : StampOrder) (a b : List ℕ) where
   abbrev ds : List (Difference ℕ)
@@ -52,14 +53,15 @@ module _ (d : Dialect) (o : StampOrder) (a b : List ℕ) where
 
   module _ (bits : ℕ) (own : width d ≡ bits) (la : length a ≤ most_words S) (lb : length b ≤ most_words S) (words rows : List ℕ)
       (lw : length words ≡ 3 * most_words S) (lr : length rows ≡ 9 * largest_rows) {r : Comparison} (answer : r ≡ compared bits d o a b (length words) (length rows)) where
-    pub answered : r ≡ Listed (length ds) (length es)
+    pub answered : r ≡ Ok (listed (length ds) (length es))
     answered = answer ∙ both_listed_lem d o a b la lb bits own lw lr
 
-    pub lists : {m n : ℕ} {words' rows' : List ℕ} → r ≡ Listed m n → length words' ≡ length words → length rows' ≡ length rows
-        → words' ≡ written r (word_entries ds) words → rows' ≡ written r (row_entries (rows_apart bits d o a b)) rows → Lists m n words' rows'
-    lists {m} {n} {words'} {rows'} e kw kr w v =
-        let p : m ≡ length ds = cc answered in
-        let q : n ≡ length es = cc answered in
+    pub lists : {l : Listed} {words' rows' : List ℕ} → r ≡ Ok l → length words' ≡ length words → length rows' ≡ length rows
+        → words' ≡ written r (word_entries ds) words → rows' ≡ written r (row_entries (rows_apart bits d o a b)) rows → Lists l.words l.rows words' rows'
+    lists {l} {words'} {rows'} e kw kr w v =
+        let both : l ≡ listed (length ds) (length es) = same_ok e answered in
+        let p : l.words ≡ length ds = ap (λ (x : Listed). x.words) both in
+        let q : l.rows ≡ length es = ap (λ (x : Listed). x.rows) both in
         let wl = entries_length word_alone 3 (λ x. refl) ds in
         let rl = entries_length flat_row 9 (λ x. refl) es in
         let few = words_and_tail d o a b la lb in
@@ -68,8 +70,8 @@ module _ (d : Dialect) (o : StampOrder) (a b : List ℕ) where
           rows_listed_lem = q;
           word_room = omega (arith, p, few, kw, lw);
           row_room = omega (arith, q, few_rows_apart d o a b, kr, lr);
-          word_list = ap (take (3 * m)) (w ∙ rw answered) ∙ front (word_entries ds) words (3 * m) (omega (arith, wl, p));
-          row_list = ap (take (9 * n)) (v ∙ rw (answered, own_rows d o a b bits own)) ∙ front (row_entries es) rows (9 * n) (omega (arith, rl, q));
+          word_list = ap (take (3 * l.words)) (w ∙ rw answered) ∙ front (word_entries ds) words (3 * l.words) (omega (arith, wl, p));
+          row_list = ap (take (9 * l.rows)) (v ∙ rw (answered, own_rows d o a b bits own)) ∙ front (row_entries es) rows (9 * l.rows) (omega (arith, rl, q));
         }
 
   -- room for each part of the text, one behind another from `at` on
@@ -110,10 +112,3 @@ module _ (d : Dialect) (o : StampOrder) (a b : List ℕ) where
               → Placed text₀ at (compared_text d o a b) end₄ text₄
           unfolding compared_text
           all_put_lem e z = placed_then (placed_then (placed_then p q) s) (rw (l.words_listed_lem, e, l.rows_listed_lem) at z)
-
--- the tail by the lengths of the events
-pub tail_put : (a b : List ℕ) {ws text₁ text₂ : List ℕ} {m n end₁ end₂ : ℕ} → m ≡ length a → n ≡ length b → ws ≡ tail_of a b
-    → Placed text₁ end₁ (cond (ltb m n) (tail_lines (text " second ") m ws) (tail_lines (text " first ") n ws)) end₂ text₂
-    → Placed text₁ end₁ (tail_text a b) end₂ text₂
-unfolding tail_text
-tail_put a b p q e h = rw (p, q, e) at h

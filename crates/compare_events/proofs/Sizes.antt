@@ -7,6 +7,7 @@ use mathlib.Core.Path.{◌≡◌, refl}
 use mathlib.Core.Bool.{Bool, true, false, cond}
 use mathlib.Core.List.{List, [], ◌∷◌, ◌++◌}
 use lib.Dec.{ltb}
+use Rattle.std.specs.Prelude.{Ok}
 use lib.ListN.{length, length-append, length-drop}
 use borrow.Author.Tests.{ltb-true, ltb-false, eq-eqb}
 use Rattle.event.specs.declared.Row.{Row}
@@ -23,8 +24,7 @@ use Rattle.hex_line.specs.Line.{most_words, line_words}
 use Rattle.hex_line.specs.Text.{text}
 use Rattle.listing.specs.Listing.{line_dialect, and_then}
 use Rattle.listing.proofs.Room.{few_words, under}
-use Rattle.comparison.specs.declared.Comparison.TheVariants.{Listed}
-use Rattle.comparison.specs.Comparing.{differing_words, differing_rows, rows_apart, compared}
+use Rattle.comparison.specs.Comparing.{listed, differing_words, differing_rows, rows_apart, compared}
 use Rattle.comparison.specs.Differences.{Difference, difference, differences_from, tail_of}
 use Rattle.compare_events.specs.Lengths.{word_length, tail_length, rows_length, compared_length, most_text}
 use Rattle.compare_events.specs.Print.{compared_text, body_text, lines_text, print_of}
@@ -104,7 +104,7 @@ module _ (d : Dialect) (o : StampOrder) (a b : List ℕ) (la : length a ≤ most
 
   -- 25 does not show
   pub both_listed_lem : (bits : ℕ) → width d ≡ bits → {words rows : ℕ} → words ≡ 3 * most_words S → rows ≡ 9 * largest_rows
-      → compared bits d o a b words rows ≡ Listed (length (differing_words a b)) (length apart)
+      → compared bits d o a b words rows ≡ Ok (listed (length (differing_words a b)) (length apart))
   both_listed_lem bits e {words} {rows} w r =
       let m : length (differing_words a b) ≤ words / 3 = omega (arith, (few_words_apart a b).0) in
       let n : length apart ≤ rows / 9 = omega (arith, few_rows_apart d o a b) in

@@ -6,8 +6,8 @@ use native.Mathlib.Omega.{arith}
 use mathlib.Core.Path.{◌≡◌, refl, ◌∙◌}
 use mathlib.Core.List.{List, [], ◌∷◌, ◌++◌, append_assoc, append-nil}
 use lib.ListN.{length, get_or, take, length-append}
-use Rattle.event.specs.declared.Answer.{Answer}
-use Rattle.event.specs.declared.Answer.TheVariants.{Accepted, Refused}
+use Rattle.std.specs.Prelude.{Ok, Err}
+use Rattle.event.specs.Refusal.{Answer}
 use Rattle.event.specs.declared.Row.{Row}
 use Rattle.event.specs.Parser.{each}
 use Rattle.hex_line.proofs.TextLaws.{field_length}
@@ -17,8 +17,8 @@ use Rattle.compare_events.specs.Text.{accepted_text, refused_text, answer_text, 
 
 pub answer_most : (label : List ℕ) (a : Answer) → length label ≡ 7 → length (answer_text label a) ≤ answer_length
 unfolding accepted_text refused_text
-answer_most label (Accepted n) l = simp (length-append, field_length) (omega arith)
-answer_most label (Refused n p) l = simp (length-append, field_length) (omega arith)
+answer_most label (Ok n) l = simp (length-append, field_length) (omega arith)
+answer_most label (Err r) l = simp (length-append, field_length) (omega arith)
 
 pub answers_most : (a b : Answer) → length (answers_text a b) ≤ 2 * answer_length
 unfolding answers_text

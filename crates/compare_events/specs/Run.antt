@@ -1,16 +1,13 @@
 -- Where a run of the program stands. (The program's functions are private.)
 -- Assumes nothing.
-use Rattle.std.specs.Prelude.{ℕ, suc, ◌+◌, ◌≤◌, ◌≡◌, Bool, false, cond, List, [], ◌∷◌, ◌++◌, eqb, ltb, ℤ, pos, length, take}
-use Rattle.std.specs.Int.Signed.{lt_z}
-use Rattle.io.specs.Counts.{clamp_len}
-use Rattle.event.specs.declared.Answer.{Answer}
-use Rattle.event.specs.declared.Answer.TheVariants.{Accepted, Refused}
+use Rattle.std.specs.Borrow.{Bor}
+use Rattle.std.specs.Prelude.{ℕ, suc, ◌+◌, ◌≤◌, ◌≡◌, Bool, false, cond, List, [], ◌∷◌, ◌++◌, eqb, ltb, length, take, Option, None, Some, Result, Ok, Err}
 use Rattle.event.specs.declared.Row.{Row}
 use Rattle.event.specs.declared.StampOrder.{StampOrder}
-use Rattle.event.specs.Outcome.{Outcome, done, refused}
+use Rattle.event.specs.declared.refusal.Refusal.{Refusal}
+use Rattle.event.specs.Outcome.{Outcome, done, answer_of}
 use Rattle.event.specs.Parser.{each}
-use Rattle.dialects.specs.declared.Dialect.TheVariants.{S, F}
-use Rattle.hex_line.specs.Line.{longest_line, most_words}
+use Rattle.hex_line.specs.Line.{longest_line}
 use Rattle.hex_line.specs.Text.{Placed}
 use Rattle.comparison.specs.Differences.{Difference}
 use Rattle.comparison.specs.Comparing.{word_entries, row_entries}
@@ -18,19 +15,10 @@ use Rattle.compare_events.specs.declared.input.Gathered.{Gathered}
 use Rattle.compare_events.specs.Print.{printed}
 use Rattle.compare_events.specs.Text.{word_text, rows_text}
 
--- the buffers for a line's words, of both widths: room for every line that is not too long
-abbrev pub Rooms : (words longwords : List ℕ) → Type 0
-Rooms words longwords = (most_words S ≤ length words) × (most_words F ≤ length longwords)
-
--- the words that a line gave, in the buffer of their width
-abbrev pub words_of : Answer → List ℕ → Outcome ℕ
-words_of (Accepted n) buffer = done (take n buffer)
-words_of (Refused n k) buffer = refused n k
-
--- there are so many in the buffer, and no more than of a line
-abbrev pub Within : Answer → List ℕ → Type 0
-Within (Accepted n) buffer = (n ≤ length buffer) × (n ≤ most_words S)
-Within (Refused n k) buffer = Unit {0}
+-- what the words of a line are given as, of which n makes numbers: themselves, or the line's refusal
+abbrev pub WordsGiven : {W : Type 0} → (List W → List ℕ) → Outcome ℕ → Result (Bor (List W)) Refusal → Type 0
+WordsGiven numbers x (Ok words) = x ≡ done (numbers words.now)
+WordsGiven numbers x (Err r) = Err r ≡ answer_of x
 
 -- where the second line starts, of an input of so many characters whose first line has `count`: behind its line feed; at the end where there is none, or the first is too long
 abbrev pub second_start : (count all : ℕ) → ℕ
@@ -48,15 +36,10 @@ unfoldable pub feeds_in : List ℕ → ℕ
 feeds_in [] = 0
 feeds_in (c ∷ s) = cond (eqb c 10) (suc (feeds_in s)) (feeds_in s)
 
--- after a read of `got` characters into a part of the buffer: as many count as are in it, none where the input has ended or the read failed
-abbrev pub after_read : Gathered → ℤ → List ℕ → Gathered
-after_read state got part =
-    record {
-      end = state.end + clamp_len got (length part);
-      feeds = state.feeds + feeds_in (take (clamp_len got (length part)) part);
-      last = clamp_len got (length part);
-      failed = lt_z got (pos 0);
-    }
+-- after a read of so many characters into a part of the buffer, none where the input has ended; or after one that failed
+abbrev pub after_read : Gathered → Option ℕ → List ℕ → Option Gathered
+after_read state None part = None
+after_read state (Some count) part = Some (record { end = state.end + count; feeds = state.feeds + feeds_in (take count part); last = count })
 
 -- what was read lies within the buffer, and its line feeds are counted
 pub record Inside (input : List ℕ) (state : Gathered) : Type 0 where

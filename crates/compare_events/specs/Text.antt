@@ -1,9 +1,9 @@
 -- What is printed of a comparison, a line each (docs/DECISIONS.md, 'Readings of the papers (the comparison)'): numbers as eight hexadecimal digits.
 -- Assumes nothing.
 use Rattle.std.specs.Prelude.{ℕ, ◌+◌, cond, List, [], ◌∷◌, ◌++◌, ltb, length}
-use Rattle.event.specs.declared.Answer.{Answer}
 use Rattle.event.specs.declared.Row.{Row}
 use Rattle.event.specs.Outcome.{accepted, refusal_number, count_or_place}
+use Rattle.event.specs.Refusal.{Answer}
 use Rattle.hex_line.specs.Text.{text, field}
 use Rattle.comparison.specs.Differences.{Difference, tail_of}
 

@@ -3,9 +3,9 @@
 #![tactic(auto)]
 
 mod input;
+mod line_word;
 mod lines;
-mod side16;
-mod side32;
+mod side;
 mod text;
 
 ghost use Rattle.std.specs.Prelude.{◌≤◌, ◌≡◌, false, length};
@@ -14,7 +14,7 @@ ghost use Rattle.compare_events.specs.Lengths.{most_input, most_text};
 ghost use Rattle.compare_events.specs.Run.{Inside, goes_on, PrintPut};
 
 use dialects::LARGEST_ROWS;
-use event::{StampOrder, default_order};
+use event::StampOrder;
 use hex_line::LONGEST_LINE;
 use input::{Gathered, gather};
 use lines::put_print;
@@ -47,10 +47,9 @@ fn compare_input(
     requires order_value { order ≡ default_order }
     requires input_len { (length input.old ≡ most_input) × (most_text ≤ length text.old) }
 {
-    let gathered = gather(stdin, input);
-    if gathered.failed {
+    let Some(gathered) = gather(stdin, input) else {
         return;
-    }
+    };
     let count = put_gathered(order, input, gathered, text);
     let _ = stdout.write_all(&text[..count]);
 }
@@ -73,7 +72,7 @@ fn main(rt: HostRuntime) {
     compare_input(
         rt.stdin(),
         rt.stdout(),
-        default_order(),
+        StampOrder::default(),
         &mut input,
         &mut text,
     );

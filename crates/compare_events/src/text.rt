@@ -1,17 +1,23 @@
-// What is printed of a comparison, as text in a lent buffer: each function answers where its text ends.
-ghost use Rattle.std.specs.Prelude.{◌+◌, ◌*◌, ◌/◌, ◌≤◌, ◌≡◌, length, get_or};
-ghost use Rattle.event.specs.Rows.{row};
+// What is printed of a comparison, as text in a lent buffer: each function answers where its text ends. (The buffer and that index stay two parameters: a struct of
+// both would be taken apart again at each call of hex_line, which takes and answers them so.)
+ghost use Rattle.std.specs.Prelude.{◌+◌, ◌*◌, ◌/◌, ◌≤◌, ◌≡◌, length};
 ghost use Rattle.hex_line.specs.Text.{Placed};
 ghost use Rattle.comparison.specs.Differences.{difference};
 ghost use Rattle.compare_events.specs.Text.{accepted_text, refused_text, answer_text, answers_text, word_text, tail_line, row_line, rows_text, end_text, cut_text};
 ghost use Rattle.compare_events.specs.Lengths.{answer_length, word_length, tail_length, row_length, rows_length, last_length};
 ghost use Rattle.compare_events.specs.Run.{WordsPut, RowsPut};
 
-use event::{Answer, Row, count_or_place, refusal_number};
+use event::refusal::Refusal;
+use event::rows::row_at;
+use event::{Row, refusal_number};
 use hex_line::{put_field, put_text};
 
 // Puts what the two readings answer at the front.
-pub(crate) fn put_answers(text: &mut [u8], first: Answer, second: Answer) -> usize
+pub(crate) fn put_answers(
+    text: &mut [u8],
+    first: Result<usize, Refusal>,
+    second: Result<usize, Refusal>,
+) -> usize
     requires { 2 * answer_length ≤ length text.old }
     ensures { Placed text.old 0 (answers_text first second) result text.new }
 {
@@ -19,20 +25,14 @@ pub(crate) fn put_answers(text: &mut [u8], first: Answer, second: Answer) -> usi
     put_answer(text, end, b"second ", second)
 }
 
-fn put_answer(text: &mut [u8], at: usize, label: &[u8], answer: Answer) -> usize
+fn put_answer(text: &mut [u8], at: usize, label: &[u8], answer: Result<usize, Refusal>) -> usize
     requires { (length label.now ≡ 7) × (at + answer_length ≤ length text.old) }
     ensures { Placed text.old at (answer_text label.now answer) result text.new }
 {
-    let Answer::Accepted(count) = answer else {
-        return put_refused(
-            text,
-            at,
-            label,
-            refusal_number(answer),
-            count_or_place(answer),
-        );
-    };
-    put_accepted(text, at, label, count)
+    match answer {
+        Ok(count) => put_accepted(text, at, label, count),
+        Err(refusal) => put_refused(text, at, label, refusal_number(answer), refusal.place),
+    }
 }
 
 fn put_accepted(text: &mut [u8], at: usize, label: &[u8], count: usize) -> usize
@@ -60,11 +60,8 @@ pub(crate) fn put_words(text: &mut [u8], at: usize, list: &[u64]) -> usize
     ensures { WordsPut list.now text.old at result text.new }
 {
     let mut end = at;
-    let mut i = 0;
-    while i < list.len() / 3 {
-        let from = 3 * i;
-        end = put_word(text, end, list[from], list[from + 1], list[from + 2]);
-        i += 1;
+    for entry in list.chunks_exact(3) {
+        end = put_word(text, end, entry[0], entry[1], entry[2]);
     }
     end
 }
@@ -101,32 +98,16 @@ pub(crate) fn put_rows(text: &mut [u8], at: usize, list: &[u32]) -> usize
     ensures { RowsPut list.now text.old at result text.new }
 {
     let mut end = at;
-    let mut i = 0;
-    while i < list.len() / 9 {
-        let from = 9 * i;
+    for entry in list.chunks_exact(9) {
         end = put_both(
             text,
             end,
-            list[from],
-            row_of(list, from + 1),
-            row_of(list, from + 5),
+            entry[0],
+            row_at(&entry[1..], 0),
+            row_at(&entry[5..], 0),
         );
-        i += 1;
     }
     end
-}
-
-// The row of the four numbers from `at` on.
-fn row_of(list: &[u32], at: usize) -> Row
-    requires { at + 4 ≤ length list.now }
-    ensures { result ≡ row (get_or list.now at 0) (get_or list.now (at + 1) 0) (get_or list.now (at + 2) 0) (get_or list.now (at + 3) 0) }
-{
-    Row {
-        kind: list[at],
-        unit: list[at + 1],
-        channel: list[at + 2],
-        datum: list[at + 3],
-    }
 }
 
 // Puts the rows of both events that stand at an index.

@@ -1,27 +1,16 @@
 -- `input::count_feeds` meets its contract. Assumes nothing.
+use mathlib.Core.Path.{sym, ◌∙◌}
 use native.Mathlib.Omega.{arith}
-use mathlib.Core.Path.{◌≡◌, refl}
-use lib.ListN.{take}
-use lib.Seq.{take_all}
-use Rattle.compare_events.specs.Run.{feeds_in}
-use Rattle.compare_events.proofs.Feeds.{feeds_more, feeds_same}
+use lib.Dec.{eqb}
+use Rattle.std.proofs.Common.{rules, tests}
+use Rattle.std.proofs.lemmas.Iterator.{YieldsList-from_slice}
+use Rattle.std.proofs.lemmas.Iterator.Consumers.{count_from_yields_List, YieldsList-from_filter}
+use Rattle.compare_events.proofs.Feeds.{feeds_counted, feeds_few}
 use Rattle.compare_events.proofs.input.count_feeds.Goals as goal
-use Rattle.compare_events.proofs.input.count_feeds.Goals.{then-part-i-eq10, else-part-i-eq10}
-
-pub loop-i-init : goal.loop-i-init
-unfolding feeds_in
-loop-i-init c = (omega arith, refl, omega arith)
-
-pub loop-i-preserved : goal.loop-i-preserved
-loop-i-preserved c =
-    let l = c.loop-i in
-    let h = c.loop-i-test.true in
-    elim c.if-part-i-eq10.branch [
-      | then-part-i-eq10 w ↦ rw w.feeds-is (omega arith, feeds_more c.args.part.now l.i h w.if-part-i-eq10.true l.invariant.1, omega arith)
-      | else-part-i-eq10 w ↦ rw w.feeds-is (omega arith, feeds_same c.args.part.now l.i h w.if-part-i-eq10.false l.invariant.1, omega arith)
-    ]
 
 pub returns : goal.returns
 returns c =
-    let e : take c.loop-i.i c.args.part.now ≡ c.args.part.now = take_all c.loop-i.i c.args.part.now c.loop-i-test.false in
-    (rw e at c.loop-i.invariant.1, omega arith)
+    let counts = count_from_yields_List _ _ c.count.ensures.ran
+    (YieldsList-from_filter _ (λ x. eqb x 10) (YieldsList-from_slice c.args.part.now (cc)) c.filter.ensures.closure (λ x r q k. search (rules, tests))) in
+    let e = counts ∙ sym (feeds_counted c.args.part.now) in
+    (e, omega (arith, e, feeds_few c.args.part.now))

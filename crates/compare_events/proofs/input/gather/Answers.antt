@@ -11,16 +11,13 @@ loop-stdin-init c = (refl, none_read _)
 
 pub loop-stdin-smaller : goal.loop-stdin-smaller
 loop-stdin-smaller c =
-    let kept = c.read_more-state.auto.input ∙ c.loop-stdin.invariant.0 in
-    let e = c.read_more-state.ensures in
-    less_left (length c.args.input.now) (length c.loop-stdin.input) c.loop-stdin.state c.read_more-state.result (sym c.goes_on.ensures ∙ c.loop-stdin-test.true)
-    e.end_value (omega (arith, e.inside.ends, kept))
+    let kept = c.read_more.auto.input ∙ c.loop-stdin.invariant.0 in
+    let next = c.in_ok-state.ensures in
+    less_left (length c.args.input.now) (length c.loop-stdin.input) c.loop-stdin.state c.in_ok-state.state (sym c.goes_on.ensures ∙ c.loop-stdin-test.true)
+    next.1 (omega (arith, next.0.ends, kept))
 
 pub loop-stdin-preserved : goal.loop-stdin-preserved
-loop-stdin-preserved c = (c.read_more-state.auto.input ∙ c.loop-stdin.invariant.0, c.read_more-state.ensures.inside)
+loop-stdin-preserved c = (c.read_more.auto.input ∙ c.loop-stdin.invariant.0, c.in_ok-state.ensures.0)
 
 pub returns : goal.returns
-returns c = record {
-  inside = c.loop-stdin.invariant.1;
-  input_value = ap (goes_on c.loop-stdin.state) (sym c.loop-stdin.invariant.0) ∙ sym c.goes_on.ensures ∙ c.loop-stdin-test.false;
-}
+returns c = (c.loop-stdin.invariant.1, ap (goes_on c.loop-stdin.state) (sym c.loop-stdin.invariant.0) ∙ sym c.goes_on.ensures ∙ c.loop-stdin-test.false)

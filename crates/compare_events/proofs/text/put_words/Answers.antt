@@ -1,26 +1,18 @@
 -- `text::put_words` meets its contract. Assumes nothing.
 use native.Mathlib.Omega.{arith}
-use Rattle.comparison.specs.Comparing.{word_entries}
-use Rattle.comparison.proofs.Entries.{no_words, words_at}
-use Rattle.compare_events.specs.Lengths.{word_length}
-use Rattle.compare_events.specs.Text.{word_text}
-use Rattle.compare_events.proofs.Lists.{put_start, put_next, put_done, words_counted}
+use mathlib.Core.Path.{refl, ◌∙◌}
+use Rattle.event.specs.Words.{word_alone}
+use Rattle.compare_events.proofs.Lists.{put_next, put_done}
 use Rattle.compare_events.proofs.TextLaws.{word_length_lem}
 use Rattle.compare_events.proofs.text.put_words.Goals as goal
 
-pub loop-i-init : goal.loop-i-init
-loop-i-init c = put_start word_text word_length word_entries _ _ _ _
-
-pub put_word-end-requires : goal.put_word-end-requires
-put_word-end-requires c = omega (arith, c.loop-i.invariant.ends, c.loop-i.invariant.size, c.loop-i-test.true, c.requires)
-
-pub loop-i-preserved : goal.loop-i-preserved
-loop-i-preserved c =
-    put_next c.loop-i.invariant words_counted no_words c.loop-i-test.true (word_length_lem _)
-    (λ ds e h. rw e (words_at ds c.loop-i.i h)) c.put_word-end.auto.text c.put_word-end.ensures
-
-pub shape_of-text : goal.shape_of-text
-shape_of-text c = c.loop-i.invariant.size
+pub loop-entry-preserved : goal.loop-entry-preserved
+loop-entry-preserved c =
+    let s = c.in-Some.ensures.steps in
+    let l = c.loop-entry.invariant in
+    (s.0 ∙ l.0, put_next word_alone 3 (λ d. refl) l.1 s.1.0 (s.1.1 ∙ l.0) (omega arith) (word_length_lem _) (λ d e. rw e) c.put_word-end.auto.text c.put_word-end.ensures)
 
 pub returns : goal.returns
-returns c = put_done c.loop-i.invariant words_counted c.loop-i-test.false
+returns c =
+    let l = c.loop-entry.invariant in
+    put_done word_alone 3 (λ d. refl) l.1 (omega (arith, c.in-None.ensures.steps.1.0, l.0))
