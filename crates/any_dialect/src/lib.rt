@@ -8,7 +8,8 @@ ghost use Rattle.event.specs.Rows.{flat, room};
 ghost use Rattle.dialects.specs.Dialects.{reading_into, writing_into, of_width, over16, over32};
 
 use dialects::Dialect;
-use event::{Answer, StampOrder};
+use event::StampOrder;
+use event::refusal::Refusal;
 
 // Reads one event into rows, four elements each. A refused reading leaves every element as it was.
 pub fn read(
@@ -17,7 +18,7 @@ pub fn read(
     longwords: &[u32],
     order: StampOrder,
     rows: &mut [u32],
-) -> Answer
+) -> Result<usize, Refusal>
     ensures answer { result ≡ answer_of (reading_into dialect (room (length rows.old)) order (of_width dialect words.now longwords.now)) }
     ensures rows { rows.new ≡ overlaid (flat (given (reading_into dialect (room (length rows.old)) order (of_width dialect words.now longwords.now)))) rows.old }
 {
@@ -35,7 +36,7 @@ pub fn write(
     order: StampOrder,
     words: &mut [u16],
     longwords: &mut [u32],
-) -> Answer
+) -> Result<usize, Refusal>
     ensures answer { result ≡ answer_of (writing_into dialect (length (of_width dialect words.old longwords.old)) order rows.now) }
     ensures words { words.new ≡ over16 dialect (given (writing_into dialect (length (of_width dialect words.old longwords.old)) order rows.now)) words.old }
     ensures longwords { longwords.new ≡ over32 dialect (given (writing_into dialect (length (of_width dialect words.old longwords.old)) order rows.now)) longwords.old }

@@ -7,14 +7,14 @@ ghost use Rattle.event.specs.Outcome.{default_order, answer_of, given, overlaid,
 ghost use Rattle.event.specs.Rows.{flat, room};
 ghost use Rattle.dialects.specs.Dialects.{dialect_of, reading_into, writing_into, of_width, over16, over32};
 
-use dialects::dialect_of;
-use event::{count_or_place, default_order};
+use dialects::Dialect;
+use event::{StampOrder, count_or_place};
 
 pub fn bench_read(dialect: u32, words: &[u16], longwords: &[u32], rows: &mut [u32]) -> usize
     ensures answer { result ≡ count_or_place (answer_of (reading_into (dialect_of dialect) (room (length rows.old)) default_order (of_width (dialect_of dialect) words.now longwords.now))) }
     ensures rows { rows.new ≡ overlaid (flat (given (reading_into (dialect_of dialect) (room (length rows.old)) default_order (of_width (dialect_of dialect) words.now longwords.now)))) rows.old }
 {
-    let read = any_dialect::read(dialect_of(dialect), words, longwords, default_order(), rows);
+    let read = any_dialect::read(Dialect::from(dialect), words, longwords, StampOrder::default(), rows);
     count_or_place(read)
 }
 
@@ -23,6 +23,6 @@ pub fn bench_write(dialect: u32, rows: &[u32], words: &mut [u16], longwords: &mu
     ensures words { words.new ≡ over16 (dialect_of dialect) (given (writing_into (dialect_of dialect) (length (of_width (dialect_of dialect) words.old longwords.old)) default_order rows.now)) words.old }
     ensures longwords { longwords.new ≡ over32 (dialect_of dialect) (given (writing_into (dialect_of dialect) (length (of_width (dialect_of dialect) words.old longwords.old)) default_order rows.now)) longwords.old }
 {
-    let written = any_dialect::write(dialect_of(dialect), rows, default_order(), words, longwords);
+    let written = any_dialect::write(Dialect::from(dialect), rows, StampOrder::default(), words, longwords);
     count_or_place(written)
 }

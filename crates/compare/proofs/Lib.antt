@@ -1,4 +1,2 @@
 pub mod Loops
-pub mod Tails
-pub mod Ways
 pub mod Readings

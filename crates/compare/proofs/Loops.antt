@@ -1,124 +1,123 @@
 -- The loops over two lists, once for every element: words of any width, and rows.
 -- Assumes nothing.
-use Prim.Native.Nat.{ℕ, ◌+◌, ◌*◌, ◌≤◌, ◌<◌, min}
-use native.Mathlib.Nat.{zero-add, add-zero, mul_comm}
+use Prim.Native.Nat.{ℕ, zero, suc, ◌+◌, ◌*◌, ◌≤◌, ◌<◌, min}
+use native.Mathlib.Nat.{zero-add, mul_comm}
 use native.Mathlib.Numerals.{add-one}
 use native.Mathlib.Omega.{arith}
 use mathlib.Core.Path.{◌≡◌, refl, sym, ap, ◌∙◌}
-use mathlib.Core.Bool.{Bool, true, false}
-use mathlib.Core.List.{List, [], ◌∷◌, ◌++◌}
+use mathlib.Core.Logic.{◌⊎◌, ⊎_elim}
+use mathlib.Core.Bool.{Bool, true, false, not, cond}
+use mathlib.Core.List.{List, [], ◌∷◌, map}
 use lib.ListN.{length, get_or, drop, length-drop}
 use lib.Seq.{sets, sets-eq, length-sets, drop-cons}
+use Rattle.std.proofs.lemmas.Bool.{not-true, not-false}
+use Rattle.std.specs.List.{zip, filter, range_with_len}
 use Rattle.event.specs.Outcome.{overlaid}
 use Rattle.event.proofs.WordStores.{sets_append}
-use Rattle.comparison.specs.Differences.{Difference, difference, differences_from, differences, entry, entries}
+use Rattle.comparison.specs.Differences.{Difference, difference, differences_from, entry, entries}
 use Rattle.comparison.proofs.Entries.{entries_length}
 
-module _ {A : Type 0} (same : A → A → Bool) (a b : List A) (i : ℕ) where
-  -- the differences from index i on
-  abbrev from : List (Difference A)
-  from = differences_from same i (drop i a) (drop i b)
+-- of two slices whose elements n takes to those of the lists: how many differ,
+module _ {A B : Type 0} (same : A → A → Bool) (n : B → A) where
+  abbrev pub apart : B × B → Bool
+  apart p = not (same (n p.0) (n p.1))
 
-  abbrev behind : List (Difference A)
-  behind = differences_from same (i + 1) (drop (i + 1) a) (drop (i + 1) b)
-
-  from_end : min (length a) (length b) ≤ i → from ≡ []
+  pub counted : (a b : List B) (i : ℕ) → length (differences_from same i (map n a) (map n b)) ≡ length (filter apart (zip a b))
   unfolding differences_from
-  from_end h = none (drop i a) (drop i b) (simp length-drop (omega arith))
+  counted [] b i = refl
+  counted (x ∷ xs) [] i = refl
+  counted (x ∷ xs) (y ∷ ys) i = go (same (n x) (n y)) _ _ (counted xs ys (i + 1))
+    where
+      go : (t : Bool) (ds : List (Difference A)) (ps : List (B × B)) → length ds ≡ length ps
+          → length (cond t ds (difference i (n x) (n y) ∷ ds)) ≡ length (cond (not t) ((x, y) ∷ ps) ps)
+      go true ds ps e = e
+      go false ds ps e = ap suc e
+
+  -- and the pairs of elements that are left from index k on, of which x and y come next, or none do
+  module _ {i k k' : ℕ} {a b a' b' : List B} {x y : B} (p : a ≡ x ∷ a') (q : b ≡ y ∷ b') (e : i ≡ k) (f : k' ≡ k + 1) where
+    pub next_apart : apart (x, y) ≡ true → differences_from same k (map n a) (map n b) ≡ difference i (n x) (n y) ∷ differences_from same k' (map n a') (map n b')
+    unfolding differences_from
+    next_apart h = rw (p, q, e, f, not-true (same (n x) (n y)) h)
+
+    pub next_same : apart (x, y) ≡ false → differences_from same k (map n a) (map n b) ≡ differences_from same k' (map n a') (map n b')
+    unfolding differences_from
+    next_same h = rw (p, q, f, not-false (same (n x) (n y)) h)
+
+  pub no_pair : (k : ℕ) (a b : List B) → (a ≡ []) ⊎ (b ≡ []) → differences_from same k (map n a) (map n b) ≡ []
+  unfolding differences_from
+  no_pair k a [] h = no_second (map n a)
+    where
+      no_second : (x : List A) → differences_from same k x [] ≡ []
+      no_second [] = refl
+      no_second (x ∷ xs) = refl
+  no_pair k a (y ∷ b) h = ⊎_elim (λ e. rw e) (λ e. absurd (omega (arith, ap length e))) h
+
+module _ {A : Type 0} (same : A → A → Bool) (a b : List A) where
+  -- the differences from index i on
+  abbrev pub from : ℕ → List (Difference A)
+  from i = differences_from same i (drop i a) (drop i b)
+
+  pub from_end : (i : ℕ) → min (length a) (length b) ≤ i → from i ≡ []
+  unfolding differences_from
+  from_end i h = none (drop i a) (drop i b) (simp length-drop (omega arith))
     where
       none : (x y : List A) → min (length x) (length y) ≡ 0 → differences_from same i x y ≡ []
       none [] y h = refl
       none (x ∷ xs) [] h = refl
       none (x ∷ xs) (y ∷ ys) h = absurd (omega arith)
 
-  module _ (z : A) (h : i < min (length a) (length b)) where
-    from_same : same (get_or a i z) (get_or b i z) ≡ true → from ≡ behind
-    unfolding differences_from
-    from_same e =
-        let ha : i < length a = omega arith in
-        let hb : i < length b = omega arith in
-        rw (drop-cons a i z ha, drop-cons b i z hb, e, add-one)
+  from_here : (i : ℕ) (z : A) → i < min (length a) (length b) → from i ≡ cond (same (get_or a i z) (get_or b i z)) (from (i + 1)) (difference i (get_or a i z) (get_or b i z) ∷ from (i + 1))
+  unfolding differences_from
+  from_here i z h =
+      let ha : i < length a = omega arith in
+      let hb : i < length b = omega arith in
+      rw (drop-cons a i z ha, drop-cons b i z hb, add-one)
 
-    from_more : same (get_or a i z) (get_or b i z) ≡ false → from ≡ difference i (get_or a i z) (get_or b i z) ∷ behind
-    unfolding differences_from
-    from_more e =
-        let ha : i < length a = omega arith in
-        let hb : i < length b = omega arith in
-        rw (drop-cons a i z ha, drop-cons b i z hb, e, add-one)
+  -- or by their index
+  abbrev pub apart_at : A → ℕ → Bool
+  apart_at z i = not (same (get_or a i z) (get_or b i z))
 
--- counting: of n shared elements the first i have `found` differences
-pub record Counting {A : Type 0} (same : A → A → Bool) (a b : List A) (n found i : ℕ) : Type 0 where
-  pub shared : n ≡ min (length a) (length b)
-  pub within : i ≤ n
-  pub few : found ≤ i
-  pub left : found + length (from same a b i) ≡ length (differences same a b)
+  module _ (z : A) {i : ℕ} (h : i < min (length a) (length b)) where
+    pub from_apart : apart_at z i ≡ true → from i ≡ difference i (get_or a i z) (get_or b i z) ∷ from (i + 1)
+    from_apart t = from_here i z h ∙ rw (not-true (same (get_or a i z) (get_or b i z)) t)
 
-pub count_start : {A : Type 0} (same : A → A → Bool) (a b : List A) (n : ℕ) → n ≡ min (length a) (length b) → Counting same a b n 0 0
-count_start same a b n h = record { shared = h; within = omega arith; few = omega arith; left = zero-add (length (differences same a b)) }
+    pub from_same : apart_at z i ≡ false → from i ≡ from (i + 1)
+    from_same t = from_here i z h ∙ rw (not-false (same (get_or a i z) (get_or b i z)) t)
 
-module _ {A : Type 0} {same : A → A → Bool} {a b : List A} {n found i : ℕ} (c : Counting same a b n found i) where
-  module _ (z : A) (h : i < n) where
-    pub count_same : same (get_or a i z) (get_or b i z) ≡ true → Counting same a b n found (i + 1)
-    count_same e =
-        record { shared = c.shared; within = omega arith; few = omega arith; left = rw (from_same same a b i z (omega arith) e) at c.left }
+  pub counted_at : (z : A) (m i : ℕ) → i + m ≡ min (length a) (length b) → length (from i) ≡ length (filter (apart_at z) (range_with_len i m))
+  counted_at z zero i h = ap length (from_end i (omega arith))
+  counted_at z (suc m) i h = ap length (from_here i z (omega arith)) ∙ go (same (get_or a i z) (get_or b i z)) _ _ (counted_at z m (i + 1) (omega arith))
+    where
+      go : (t : Bool) (ds : List (Difference A)) (is : List ℕ) → length ds ≡ length is
+          → length (cond t ds (difference i (get_or a i z) (get_or b i z) ∷ ds)) ≡ length (cond (not t) (i ∷ is) is)
+      go true ds is e = e
+      go false ds is e = ap suc e
 
-    pub count_more : same (get_or a i z) (get_or b i z) ≡ false → Counting same a b n (found + 1) (i + 1)
-    count_more e = record {
-      shared = c.shared;
-      within = omega arith;
-      few = omega arith;
-      left = omega (arith, rw (from_more same a b i z (omega arith) e) at c.left);
-    }
+-- filling: entries of w numbers each over the list `before`; `found` of all are put, those left are to come
+pub record Filling {A : Type 0} (numbers : A → List ℕ) (w : ℕ) (all : List (Difference A)) (before : List ℕ) (left : List (Difference A)) (found : ℕ) (list : List ℕ) : Type 0 where
+  pub size : length list ≡ length before
+  pub room : found + length left ≡ length all
+  pub rest : sets list (w * found) (entries numbers left) ≡ sets before 0 (entries numbers all)
 
-  pub count_done : n ≤ i → found ≡ length (differences same a b)
-  count_done h = sym (add-zero found) ∙ rw (from_end same a b i (omega arith)) at c.left
+pub fill_start : {A : Type 0} (numbers : A → List ℕ) (w : ℕ) (all : List (Difference A)) (before : List ℕ) → Filling numbers w all before all 0 before
+fill_start numbers w all before = let e : w * 0 ≡ 0 = omega arith in record { size = refl; room = zero-add (length all); rest = rw e }
 
--- filling: entries of w numbers each over the list `out₀`
-pub record Filling {A : Type 0} (numbers : A → List ℕ) (w : ℕ) (same : A → A → Bool) (a b : List A) (out₀ : List ℕ) (n : ℕ) (out : List ℕ) (found i : ℕ) : Type 0 where
-  pub counting : Counting same a b n found i
-  pub size : length out ≡ length out₀
-  pub rest : sets out (w * found) (entries numbers (from same a b i)) ≡ sets out₀ 0 (entries numbers (differences same a b))
+module _ {A : Type 0} {numbers : A → List ℕ} {w : ℕ} {all : List (Difference A)} {before : List ℕ} {d : Difference A} {left : List (Difference A)} {found : ℕ} {list : List ℕ}
+    (f : Filling numbers w all before (d ∷ left) found list) where
+  pub fill_room : found + 1 ≤ length all
+  fill_room = omega (arith, f.room)
 
-pub fill_start : {A : Type 0} (numbers : A → List ℕ) (w : ℕ) (same : A → A → Bool) (a b : List A) (out : List ℕ) (n : ℕ)
-    → n ≡ min (length a) (length b) → Filling numbers w same a b out n out 0 0
-fill_start numbers w same a b out n h =
-    let e : w * 0 ≡ 0 = omega arith in
-    record { counting = count_start same a b n h; size = refl; rest = rw e }
+  pub fill_more : {list' : List ℕ} → length (entry numbers d) ≡ w → w * found + w ≡ w * (found + 1) → list' ≡ sets list (w * found) (entry numbers d) → Filling numbers w all before left (found + 1) list'
+  fill_more {list'} l k q =
+      let at : w * (found + 1) ≡ w * found + length (entry numbers d) = sym k ∙ ap (w * found +◌) (sym l) in
+      record {
+        size = rw q (length-sets list (w * found) (entry numbers d) ∙ f.size);
+        room = omega (arith, f.room);
+        rest = rw (q, at) (sets_append list (entry numbers d) (entries numbers left) (w * found) ∙ f.rest);
+      }
 
-module _ {A : Type 0} {numbers : A → List ℕ} {w : ℕ} {same : A → A → Bool} {a b : List A} {out₀ out : List ℕ} {n found i : ℕ}
-    (f : Filling numbers w same a b out₀ n out found i) where
-  module _ (z : A) (h : i < n) where
-    below : i < min (length a) (length b)
-    below = omega (arith, f.counting.shared)
-
-    abbrev this : Difference A
-    this = difference i (get_or a i z) (get_or b i z)
-
-    pub fill_same : same (get_or a i z) (get_or b i z) ≡ true → Filling numbers w same a b out₀ n out found (i + 1)
-    fill_same e = record { counting = count_same f.counting z h e; size = f.size; rest = rw (from_same same a b i z below e) at f.rest }
-
-    module _ (e : same (get_or a i z) (get_or b i z) ≡ false) where
-      -- room for one entry more
-      pub fill_room : found + 1 ≤ length (differences same a b)
-      fill_room = omega (arith, rw (from_more same a b i z below e) at f.counting.left)
-
-      pub fill_more : {out' : List ℕ} → length (entry numbers this) ≡ w → w * found + w ≡ w * (found + 1)
-          → out' ≡ sets out (w * found) (entry numbers this) → Filling numbers w same a b out₀ n out' (found + 1) (i + 1)
-      fill_more {out'} l k q =
-          let others = entries numbers (behind same a b i) in
-          let at : w * (found + 1) ≡ w * found + length (entry numbers this) = sym k ∙ ap (w * found +◌) (sym l) in
-          let old : sets out (w * found) (entry numbers this ++ others) ≡ sets out₀ 0 (entries numbers (differences same a b)) =
-          rw (from_more same a b i z below e) at f.rest in
-          record {
-            counting = count_more f.counting z h e;
-            size = rw q (length-sets out (w * found) (entry numbers this) ∙ f.size);
-            rest = rw (q, at) (sets_append out (entry numbers this) others (w * found) ∙ old);
-          }
-
-  pub fill_done : n ≤ i → ((d : Difference A) → length (entry numbers d) ≡ w) → w * length (differences same a b) ≤ length out₀
-      → out ≡ overlaid (entries numbers (differences same a b)) out₀
-  fill_done h l room =
-      let all = entries numbers (differences same a b) in
-      let size : length all ≡ w * length (differences same a b) = entries_length numbers w l (differences same a b) ∙ mul_comm (length (differences same a b)) w in
-      let m : min (length a) (length b) ≤ i = omega (arith, f.counting.shared) in
-      (rw (from_end same a b i m) at f.rest) ∙ sets-eq all out₀ 0 (rw (zero-add, size) room) ∙ rw zero-add
+pub fill_done : {A : Type 0} {numbers : A → List ℕ} {w : ℕ} {all : List (Difference A)} {before list : List ℕ} {found : ℕ} → Filling numbers w all before [] found list
+    → ((d : Difference A) → length (entry numbers d) ≡ w) → w * length all ≤ length before → list ≡ overlaid (entries numbers all) before
+fill_done {numbers = numbers} {w = w} {all = all} {before = before} f l room =
+    let size : length (entries numbers all) ≡ w * length all = entries_length numbers w l all ∙ mul_comm (length all) w in
+    f.rest ∙ sets-eq (entries numbers all) before 0 (rw (zero-add, size) room) ∙ rw zero-add

@@ -1,17 +1,10 @@
 // Entries of the lent lists: three numbers for words that differ, nine for rows.
-ghost use Rattle.std.specs.Prelude.{◌≡◌, [], ◌∷◌, ◌+◌, ◌*◌, ◌≤◌, min, length};
+ghost use Rattle.std.specs.Prelude.{◌≡◌, [], ◌∷◌, ◌+◌, ◌*◌, ◌≤◌, length};
 ghost use Rattle.std.proofs.lemmas.List.Edits.{sets};
 ghost use Rattle.event.specs.Rows.{flat_row};
 ghost use Rattle.comparison.specs.Differences.{difference, entry};
 
 use event::Row;
-
-// The number of words, or of rows, that both have.
-pub(crate) fn shared(m: usize, n: usize) -> usize
-    ensures { result ≡ min m n }
-{
-    if m < n { m } else { n }
-}
 
 // Entry k of the list becomes the index and both words.
 pub(crate) fn put_words(list: &mut [u64], k: usize, index: u64, x: u64, y: u64)

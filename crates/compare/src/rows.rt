@@ -2,39 +2,37 @@
 ghost use Rattle.std.specs.Prelude.{◌≡◌, ◌*◌, ◌≤◌, length};
 ghost use Rattle.event.specs.Outcome.{answer_of, given, overlaid};
 ghost use Rattle.event.specs.Writing.{rows_in, is_same_row};
-ghost use Rattle.dialects.specs.Dialects.{reading, of_width, largest_rows};
+ghost use Rattle.dialects.specs.Dialects.{largest_rows};
 ghost use Rattle.comparison.specs.Differences.{differences};
-ghost use Rattle.comparison.specs.Comparing.{differing_rows, row_entries, rows_listed};
+ghost use Rattle.comparison.specs.Comparing.{rows_apart, row_entries, rows_listed};
 
-use crate::entries::{put_rows, shared};
+use crate::entries::put_rows;
+use crate::event_word::EventWord;
 use dialects::{Dialect, LARGEST_ROWS};
+use event::StampOrder;
+use event::refusal::{Fault, Refusal, refuse};
 use event::rows::row_at;
-use event::{Answer, Row, StampOrder, refusal};
 
 // The elements of the largest event's rows.
 const ELEMENTS: usize = 4 * LARGEST_ROWS;
 
-// Lists the differing rows of two events, each in the words of the dialect's width; none unless both are acceptable. On 25 nothing is written.
-pub(crate) fn list(
+// Lists the differing rows of two events; none unless both are acceptable. On 25 nothing is written.
+pub(crate) fn list<W: EventWord>(
     dialect: Dialect,
-    first: &[u16],
-    firstlong: &[u32],
-    second: &[u16],
-    secondlong: &[u32],
+    first: &[W],
+    second: &[W],
     order: StampOrder,
     list: &mut [u32],
-) -> Answer
-    ensures answer { result ≡ answer_of (rows_listed (length list.old) (differing_rows (reading dialect order (of_width dialect first.now firstlong.now)) (reading dialect order (of_width dialect second.now secondlong.now)))) }
-    ensures list { list.new ≡ overlaid (row_entries (given (rows_listed (length list.old) (differing_rows (reading dialect order (of_width dialect first.now firstlong.now)) (reading dialect order (of_width dialect second.now secondlong.now)))))) list.old }
+) -> Result<usize, Refusal>
+    ensures answer { result ≡ answer_of (rows_listed (length list.old) (rows_apart W.bits dialect order (W.numbers first.now) (W.numbers second.now))) }
+    ensures list { list.new ≡ overlaid (row_entries (given (rows_listed (length list.old) (rows_apart W.bits dialect order (W.numbers first.now) (W.numbers second.now))))) list.old }
 {
     let mut firsts = [0u32; ELEMENTS];
     let mut seconds = [0u32; ELEMENTS];
     list_by(
         dialect,
         first,
-        firstlong,
         second,
-        secondlong,
         order,
         &mut firsts,
         &mut seconds,
@@ -43,28 +41,24 @@ pub(crate) fn list(
 }
 
 // The same by way of room for the rows of the largest event, twice: so 12 never shows.
-fn list_by(
+fn list_by<W: EventWord>(
     dialect: Dialect,
-    first: &[u16],
-    firstlong: &[u32],
-    second: &[u16],
-    secondlong: &[u32],
+    first: &[W],
+    second: &[W],
     order: StampOrder,
     firsts: &mut [u32],
     seconds: &mut [u32],
     list: &mut [u32],
-) -> Answer
+) -> Result<usize, Refusal>
     requires { (length firsts.old ≡ 4 * largest_rows) × (length seconds.old ≡ 4 * largest_rows) }
-    ensures answer { result ≡ answer_of (rows_listed (length list.old) (differing_rows (reading dialect order (of_width dialect first.now firstlong.now)) (reading dialect order (of_width dialect second.now secondlong.now)))) }
-    ensures list { list.new ≡ overlaid (row_entries (given (rows_listed (length list.old) (differing_rows (reading dialect order (of_width dialect first.now firstlong.now)) (reading dialect order (of_width dialect second.now secondlong.now)))))) list.old }
+    ensures answer { result ≡ answer_of (rows_listed (length list.old) (rows_apart W.bits dialect order (W.numbers first.now) (W.numbers second.now))) }
+    ensures list { list.new ≡ overlaid (row_entries (given (rows_listed (length list.old) (rows_apart W.bits dialect order (W.numbers first.now) (W.numbers second.now))))) list.old }
 {
-    let answer = any_dialect::read(dialect, first, firstlong, order, &mut *firsts);
-    let Answer::Accepted(m) = answer else {
-        return Answer::Accepted(0);
+    let Ok(m) = W::read(dialect, first, order, &mut *firsts) else {
+        return Ok(0);
     };
-    let other = any_dialect::read(dialect, second, secondlong, order, &mut *seconds);
-    let Answer::Accepted(n) = other else {
-        return Answer::Accepted(0);
+    let Ok(n) = W::read(dialect, second, order, &mut *seconds) else {
+        return Ok(0);
     };
     let a = m * 4;
     let b = n * 4;
@@ -72,70 +66,42 @@ fn list_by(
 }
 
 // Lists the differing rows of two buffers of rows, or refuses by 25 with nothing written.
-fn list_rows(a: &[u32], b: &[u32], list: &mut [u32]) -> Answer
-    requires { length a.now ≤ 4 * largest_rows }
-    ensures answer { result ≡ answer_of (rows_listed (length list.old) (differences is_same_row (rows_in a.now) (rows_in b.now))) }
-    ensures list { list.new ≡ overlaid (row_entries (given (rows_listed (length list.old) (differences is_same_row (rows_in a.now) (rows_in b.now))))) list.old }
+fn list_rows(first: &[u32], second: &[u32], list: &mut [u32]) -> Result<usize, Refusal>
+    requires { length first.now ≤ 4 * largest_rows }
+    ensures answer { result ≡ answer_of (rows_listed (length list.old) (differences is_same_row (rows_in first.now) (rows_in second.now))) }
+    ensures list { list.new ≡ overlaid (row_entries (given (rows_listed (length list.old) (differences is_same_row (rows_in first.now) (rows_in second.now))))) list.old }
 {
-    let needed = count(a, b);
+    let needed = count(first, second);
     if list.len() / 9 < needed {
-        return Answer::Refused {
-            number: refusal::LIST,
-            place: needed,
-        };
+        return refuse(Fault::List, needed);
     }
-    fill(a, b, list);
-    Answer::Accepted(needed)
+    fill(first, second, list);
+    Ok(needed)
 }
 
 // How many rows below the shared number differ.
-fn count(a: &[u32], b: &[u32]) -> usize
-    ensures { result ≡ length (differences is_same_row (rows_in a.now) (rows_in b.now)) }
+fn count(first: &[u32], second: &[u32]) -> usize
+    ensures { result ≡ length (differences is_same_row (rows_in first.now) (rows_in second.now)) }
 {
-    let n = shared(a.len() / 4, b.len() / 4);
-    let mut found: usize = 0;
-    let mut i = 0;
-    while i < n {
-        let same = same_row(row_at(a, i), row_at(b, i));
-        if !same {
-            found += 1;
-        }
-        i += 1;
-    }
-    found
+    let shared = first.len().min(second.len()) / 4;
+    (0..shared)
+        .filter(|i| row_at(first, *i) != row_at(second, *i))
+        .count()
 }
 
 // Lists them.
-fn fill(a: &[u32], b: &[u32], list: &mut [u32])
-    requires { (9 * length (differences is_same_row (rows_in a.now) (rows_in b.now)) ≤ length list.old) × (length a.now ≤ 4 * largest_rows) }
-    ensures { list.new ≡ overlaid (row_entries (differences is_same_row (rows_in a.now) (rows_in b.now))) list.old }
+fn fill(first: &[u32], second: &[u32], list: &mut [u32])
+    requires { (9 * length (differences is_same_row (rows_in first.now) (rows_in second.now)) ≤ length list.old) × (length first.now ≤ 4 * largest_rows) }
+    ensures { list.new ≡ overlaid (row_entries (differences is_same_row (rows_in first.now) (rows_in second.now))) list.old }
 {
-    let n = shared(a.len() / 4, b.len() / 4);
+    let shared = first.len().min(second.len()) / 4;
     let mut found: usize = 0;
-    let mut i = 0;
-    while i < n {
-        let r = row_at(a, i);
-        let s = row_at(b, i);
-        let same = same_row(r, s);
-        if !same {
+    for i in 0..shared {
+        let r = row_at(first, i);
+        let s = row_at(second, i);
+        if r != s {
             put_rows(&mut *list, found, i as u32, r, s);
             found += 1;
         }
-        i += 1;
     }
-}
-
-fn same_row(r: Row, s: Row) -> bool
-    ensures { result ≡ is_same_row r s }
-{
-    if r.kind != s.kind {
-        return false;
-    }
-    if r.unit != s.unit {
-        return false;
-    }
-    if r.channel != s.channel {
-        return false;
-    }
-    r.datum == s.datum
 }

@@ -2,8 +2,7 @@
 -- Assumes nothing.
 use Rattle.std.specs.Prelude.{ℕ, cond, List, leb, length}
 use Rattle.event.specs.Outcome.{overlaid}
-use Rattle.comparison.specs.declared.Comparison.{Comparison}
-use Rattle.comparison.specs.Comparing.{numbers_of}
+use Rattle.comparison.specs.Comparing.{Comparison, numbers_of}
 
 abbrev pub answered : Comparison → List ℕ → List ℕ
 answered x buffer = cond (leb 3 (length buffer)) (overlaid (numbers_of x) buffer) buffer

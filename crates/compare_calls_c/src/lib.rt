@@ -21,7 +21,7 @@ pub extern "C" fn compare_call16(
     ensures rows { rows.new ≡ written (compared 16 (dialect_of dialect) (order_of order) first.now second.now (length words.old) (length rows.old)) (row_entries (rows_apart 16 (dialect_of dialect) (order_of order) first.now second.now)) rows.old }
     ensures answer { answer.new ≡ answered (compared 16 (dialect_of dialect) (order_of order) first.now second.now (length words.old) (length rows.old)) answer.old }
 {
-    compare_calls::compare_call16(dialect, order, first, second, words, rows, answer);
+    compare_calls::compare_call(dialect, order, first, second, words, rows, answer);
 }
 
 #[unsafe(no_mangle)]
@@ -38,5 +38,5 @@ pub extern "C" fn compare_call32(
     ensures rows { rows.new ≡ written (compared 32 (dialect_of dialect) (order_of order) first.now second.now (length words.old) (length rows.old)) (row_entries (rows_apart 32 (dialect_of dialect) (order_of order) first.now second.now)) rows.old }
     ensures answer { answer.new ≡ answered (compared 32 (dialect_of dialect) (order_of order) first.now second.now (length words.old) (length rows.old)) answer.old }
 {
-    compare_calls::compare_call32(dialect, order, first, second, words, rows, answer);
+    compare_calls::compare_call(dialect, order, first, second, words, rows, answer);
 }

@@ -1,16 +1,16 @@
 -- What a list of differences is, said without the way it is made. proofs/Exact shows each.
 -- Assumes nothing.
-use Rattle.std.specs.Prelude.{ℕ, zero, suc, ◌/◌, ◌≤◌, ◌<◌, ◌≡◌, ◌↔◌, ◌⊎◌, false, eqb, length, take}
+use Rattle.std.specs.Prelude.{ℕ, zero, suc, ◌/◌, ◌≤◌, ◌<◌, ◌≡◌, ◌↔◌, ◌⊎◌, false, eqb, length, take, Ok, Err}
 use mathlib.Core.List.{List, [], ◌∷◌, ◌++◌, Memᴰ}
 use Rattle.event.specs.declared.Row.{Row}
 use Rattle.event.specs.declared.StampOrder.{StampOrder}
 use Rattle.event.specs.Outcome.{done, refused}
 use Rattle.event.specs.Parser.{All}
+use Rattle.event.specs.Refusal.{refusal}
 use Rattle.dialects.specs.declared.Dialect.{Dialect}
 use Rattle.dialects.specs.Dialects.{width, reading}
-use Rattle.comparison.specs.declared.Comparison.TheVariants.{Listed, Refused}
 use Rattle.comparison.specs.Differences.{Difference, tail_of}
-use Rattle.comparison.specs.Comparing.{differing_words, reading_of, rows_apart, compared}
+use Rattle.comparison.specs.Comparing.{differing_words, reading_of, rows_apart, listed, compared}
 
 -- x stands at index i of a list
 abbrev pub Stands : {A : Type 0} → List A → ℕ → A → Type 0
@@ -54,9 +54,9 @@ SameRows = (bits : ℕ) (k : Dialect) (o : StampOrder) (a b : List ℕ) (rs ss :
 -- 25 exactly where a list does not fit: of the word list, or else of the row list, place the entries that it needs; else both are listed whole. The lists have m and n numbers.
 abbrev pub RoomExact : Type 0
 RoomExact = (bits : ℕ) (k : Dialect) (o : StampOrder) (a b : List ℕ) (m n : ℕ) → let ds = differing_words a b in let es = rows_apart bits k o a b in
-    (m / 3 < length ds → compared bits k o a b m n ≡ Refused 25 (length ds))
-    × (length ds ≤ m / 3 → n / 9 < length es → compared bits k o a b m n ≡ Refused 25 (length es))
-    × (length ds ≤ m / 3 → length es ≤ n / 9 → compared bits k o a b m n ≡ Listed (length ds) (length es))
+    (m / 3 < length ds → compared bits k o a b m n ≡ Err (refusal 25 (length ds)))
+    × (length ds ≤ m / 3 → n / 9 < length es → compared bits k o a b m n ≡ Err (refusal 25 (length es)))
+    × (length ds ≤ m / 3 → length es ≤ n / 9 → compared bits k o a b m n ≡ Ok (listed (length ds) (length es)))
 
 -- Words of the dialect's own width are read as they are; words of another are no acceptable event, so no rows are listed.
 abbrev pub OwnWidth : Type 0

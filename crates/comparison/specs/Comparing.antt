@@ -1,16 +1,17 @@
 -- The comparison of two events of a dialect (document 02, #104): the differing words, the differing rows, what is answered and what the lent lists hold.
 -- Assumes nothing.
-use Rattle.std.specs.Prelude.{ℕ, ◌/◌, cond, List, [], ◌∷◌, eqb, length}
+use Rattle.std.specs.Prelude.{ℕ, ◌/◌, cond, List, [], ◌∷◌, eqb, length, Result, Ok, Err}
 use Rattle.event.specs.declared.Row.{Row}
+use Rattle.event.specs.declared.refusal.Refusal.{Refusal}
 use Rattle.event.specs.declared.StampOrder.{StampOrder}
 use Rattle.event.specs.Outcome.{Outcome, done, refused, limited, overlaid}
+use Rattle.event.specs.Refusal.{number, refusal}
 use Rattle.event.specs.Rows.{flat_row}
 use Rattle.event.specs.Words.{word_alone}
 use Rattle.event.specs.Writing.{is_same_row}
 use Rattle.dialects.specs.declared.Dialect.{Dialect}
 use Rattle.dialects.specs.Dialects.{width, reading}
-use Rattle.comparison.specs.declared.Comparison.{Comparison}
-use Rattle.comparison.specs.declared.Comparison.TheVariants.{Listed, Refused}
+use Rattle.comparison.specs.declared.Listed.{Listed}
 use Rattle.comparison.specs.Differences.{Difference, differences, entries}
 
 abbrev pub differing_words : List ℕ → List ℕ → List (Difference ℕ)
@@ -44,11 +45,18 @@ words_listed size ds = limited 25 (size / 3) (done ds)
 abbrev pub rows_listed : ℕ → List (Difference Row) → Outcome (Difference Row)
 rows_listed size es = limited 25 (size / 9) (done es)
 
+-- what a comparison answers: how many entries the two lists got, or a refusal
+abbrev pub Comparison : Type 0
+Comparison = Result Listed Refusal
+
+abbrev pub listed : (words rows : ℕ) → Listed
+listed m n = record { words = m; rows = n }
+
 -- the word list, or else the row list
 abbrev pub both_listed : Outcome (Difference ℕ) → Outcome (Difference Row) → Comparison
-both_listed (refused n k) y = Refused n k
-both_listed (done ds) (refused n k) = Refused n k
-both_listed (done ds) (done es) = Listed (length ds) (length es)
+both_listed (refused n k) y = Err (refusal n k)
+both_listed (done ds) (refused n k) = Err (refusal n k)
+both_listed (done ds) (done es) = Ok (listed (length ds) (length es))
 
 -- the answer, for lists of so many numbers
 abbrev pub compared : (bits : ℕ) → Dialect → StampOrder → (a b : List ℕ) → (word_size row_size : ℕ) → Comparison
@@ -56,11 +64,11 @@ compared bits d o a b word_size row_size = both_listed (words_listed word_size (
 
 -- a lent list afterwards: its entries over its front; on 25 nothing is written in either
 abbrev pub written : Comparison → List ℕ → List ℕ → List ℕ
-written (Listed m n) xs list = overlaid xs list
-written (Refused n k) xs list = list
+written (Ok l) xs list = overlaid xs list
+written (Err r) xs list = list
 
 -- an answer in document 02's numbers, for each of its cases: the refusal number, 0 where there is none; the entries of the word list, or the place; the entries of
 -- the row list, or 0
 abbrev pub numbers_of : Comparison → List ℕ
-numbers_of (Listed m n) = 0 ∷ m ∷ n ∷ []
-numbers_of (Refused n k) = n ∷ k ∷ 0 ∷ []
+numbers_of (Ok l) = 0 ∷ l.words ∷ l.rows ∷ []
+numbers_of (Err r) = number r.fault ∷ r.place ∷ 0 ∷ []

@@ -4,7 +4,8 @@ use Rattle.std.specs.Prelude.{ℕ, ◌≤◌, ◌≡◌, ◌↔◌, List, length
 use Rattle.event.specs.declared.Row.{Row}
 use Rattle.event.specs.declared.StampOrder.{StampOrder}
 use Rattle.event.specs.Parser.{All}
-use Rattle.event.specs.Outcome.{done}
+use Rattle.event.specs.Outcome.{done, refused}
+use Rattle.event.specs.Refusal.{number, fault_of}
 use Rattle.event.specs.Rows.{flat}
 use Rattle.event.specs.Demands.{join}
 use Rattle.dialects.specs.declared.Dialect.{Dialect}
@@ -34,6 +35,11 @@ WritingExact = (d : Dialect) (o : StampOrder) (xs ws : List ℕ) → (writing d 
 abbrev pub WritingInRoomExact : Type 0
 WritingInRoomExact =
     (d : Dialect) (room : ℕ) (o : StampOrder) (xs ws : List ℕ) → (writing_into d room o xs ≡ done ws) ↔ (((rs : List Row) × (flat rs ≡ xs) × SomeEventIn d o ws rs) × (length ws ≤ room))
+
+-- Beside the demands: a refusal's number is that of the fault which the code names, so that an answer keeps it.
+abbrev pub RefusalsNamed : Type 0
+RefusalsNamed = (d : Dialect) (room : ℕ) (o : StampOrder)
+    → ((ws : List ℕ) (n k : ℕ) → reading_into d room o ws ≡ refused n k → number (fault_of n) ≡ n) × ((xs : List ℕ) (n k : ℕ) → writing_into d room o xs ≡ refused n k → number (fault_of n) ≡ n)
 
 -- What is read is written back,
 abbrev pub WrittenBack : Type 0

@@ -6,7 +6,7 @@ ghost use Rattle.dialects.specs.Dialects.{width, dialect_of};
 
 // S, one S800 event of version 5 in 16-bit words; F, one FRS VME event in 32-bit longwords (document 01, 'Two dialects'); R, one event of RCNP regions in
 // 16-bit words (document 02, #101).
-#[derive(Clone, Copy)]
+#[derive(Clone, Copy, Debug, PartialEq, Eq)]
 pub enum Dialect {
     S,
     F,
@@ -28,14 +28,14 @@ pub fn width(dialect: Dialect) -> usize
 }
 
 // The dialect of a number, for a call that can pass no enum: 0 is S, 1 is F, any other R.
-pub fn dialect_of(number: u32) -> Dialect
-    ensures { result ≡ dialect_of number }
-{
-    if number == 0 {
-        return Dialect::S;
+impl From<u32> for Dialect {
+    ghost from_gives = { λ number dialect. dialect ≡ dialect_of number };
+
+    fn from(number: u32) -> Dialect {
+        match number {
+            0 => Dialect::S,
+            1 => Dialect::F,
+            _ => Dialect::R,
+        }
     }
-    if number == 1 {
-        return Dialect::F;
-    }
-    Dialect::R
 }

@@ -37,7 +37,7 @@ faults =
     fault.Size ∷ fault.EventLength ∷ fault.EventTag ∷ fault.Version ∷ fault.Extent ∷ fault.Tag ∷ fault.Length ∷ fault.Id ∷ fault.Inner ∷ fault.Data ∷ fault.Repeated ∷ fault.Room ∷ fault.Sum
     ∷ fault.Elements ∷ fault.Kind ∷ fault.Field ∷ fault.Large ∷ fault.Words ∷ fault.List ∷ fault.LongEvent ∷ fault.NoEvent ∷ fault.Page ∷ fault.Line ∷ fault.Order ∷ []
 
--- the fault of a number of the table (another number never shows: `Known`)
+-- the fault of a number of the table (no other number is ever a refusal's: `RefusalsNamed` in dialects/specs/Demands)
 abbrev first : List Fault → ℕ → Fault
 first [] n = fault.Order
 first (f ∷ fs) n = cond (eqb n (number f)) f (first fs n)

@@ -4,15 +4,20 @@ use Prim.Native.Nat.{ℕ, zero, suc, ◌+◌, ◌-◌, ◌%◌, ◌^◌, ◌≤�
 use native.Mathlib.Nat.{le_refl}
 use native.Mathlib.Omega.{arith}
 use mathlib.Core.Path.{◌≡◌, refl, ap, sym, ◌∙◌}
-use mathlib.Core.Bool.{Bool, true, false, cond}
+use mathlib.Core.Bool.{Bool, true}
 use mathlib.Core.List.{List, [], ◌∷◌, append-nil}
 use lib.Dec.{eqb, ltb}
-use lib.ListN.{length, get_or, drop}
+use lib.ListN.{length, get_or, take, drop}
 use lib.Seq.{slice, slice_empty, length-slice}
-use borrow.Author.Tests.{eq-eqb, ne_eqb, eqb-true, lt-ltb, le-leb, lt-leb}
-use Rattle.event.specs.Parser.{Result, ok, refuse, Passed, ended, filled, alone, All}
+use borrow.Author.Tests.{eq-eqb, ne_eqb, lt-ltb, le-leb}
+use Rattle.std.specs.Prelude.{Ok, Err}
+use Rattle.std.proofs.lemmas.List.{drop_more, drop_all}
+use Rattle.event.specs.declared.refusal.Refusal.{Refusal}
+use Rattle.event.specs.Refusal.{part}
+use Rattle.event.specs.Parser as parser
+use Rattle.event.specs.Parser.{ok, refuse, Passed, ended, filled, alone, All}
 use Rattle.event.specs.Words.{halves}
-use Rattle.event.specs.Rows.{store_row}
+use Rattle.event.specs.Rows.{row, store_row}
 use Rattle.event.specs.Scanning.{store_rows, PartOf}
 use Rattle.event.proofs.Codes.{true_T}
 use Rattle.event.proofs.Ends.{ends_many}
@@ -23,78 +28,121 @@ use Rattle.frs_layout.specs.Layout.{header_word, scaler_checks, scaler_row, scal
 use Rattle.frs_layout.specs.Reading.{stamp, block_of, scaler_value, scaler_values, scaler_footer, scaler}
 use Rattle.frs_layout.proofs.RowCount.{scaler_count}
 use Rattle.frs_layout.proofs.Words.{codes_scaler_values}
-use Rattle.event.specs.declared.Part.TheVariants.{Done}
-use Rattle.frs_reader.specs.Beginning.{stamp_fault, stamp_at}
-use Rattle.frs_reader.proofs.Blocks.{block_short, values_read}
+use Rattle.frs_reader.specs.Beginning.{Stamped}
+use Rattle.frs_reader.specs.Longword.{under}
+use Rattle.frs_reader.proofs.Longwords.{under_given, under_refused}
+use Rattle.frs_reader.proofs.Blocks.{lent, values_read}
 use Rattle.frs_reader.proofs.Judged.{under_judged}
 
 -- the stamp, longword by longword
-module _ (a b c d : ℕ) (r : List ℕ) where
-  abbrev four : List ℕ
-  four = a ∷ b ∷ c ∷ d ∷ r
+four : (ws : List ℕ) → 4 ≤ length ws → ws ≡ get_or ws 0 0 ∷ get_or ws 1 0 ∷ get_or ws 2 0 ∷ get_or ws 3 0 ∷ drop 4 ws
+four [] h = absurd (omega arith)
+four (a ∷ []) h = absurd (omega arith)
+four (a ∷ b ∷ []) h = absurd (omega arith)
+four (a ∷ b ∷ c ∷ []) h = absurd (omega arith)
+four (a ∷ b ∷ c ∷ d ∷ r) h = refl
 
-  abbrev Stamped : Type 0
-  Stamped = stamp 0 four ≡ cond (eqb (stamp_fault four) 4) (ok (stamp_at four) 4 r) (refuse 10 (stamp_fault four))
+module _ (ws : List ℕ) (long : 4 ≤ length ws) where
+  abbrev a : ℕ
+  a = get_or ws 0 0
 
-  abbrev is_under : ℕ → ℕ → Bool
-  is_under upper w = eqb w (halves upper (w % 2 ^ 16))
+  abbrev b : ℕ
+  b = get_or ws 1 0
 
-  word_3 : eqb a stamp_identifier ≡ true → is_under word1_identifier b ≡ true → is_under word2_identifier c ≡ true → (x : Bool) → is_under word3_identifier d ≡ x → Stamped
-  unfolding stamp_fault
-  word_3 e f g true h = rw (e, under_judged word1_identifier 1 b (c ∷ d ∷ r), f, under_judged word2_identifier 2 c (d ∷ r), g, under_judged word3_identifier 3 d r, h)
-  word_3 e f g false h = rw (e, under_judged word1_identifier 1 b (c ∷ d ∷ r), f, under_judged word2_identifier 2 c (d ∷ r), g, under_judged word3_identifier 3 d r, h)
+  abbrev c : ℕ
+  c = get_or ws 2 0
 
-  word_2 : eqb a stamp_identifier ≡ true → is_under word1_identifier b ≡ true → (x : Bool) → is_under word2_identifier c ≡ x → Stamped
-  unfolding stamp_fault
-  word_2 e f true g = word_3 e f g (is_under word3_identifier d) refl
-  word_2 e f false g = rw (e, under_judged word1_identifier 1 b (c ∷ d ∷ r), f, under_judged word2_identifier 2 c (d ∷ r), g)
+  abbrev d : ℕ
+  d = get_or ws 3 0
 
-  word_1 : eqb a stamp_identifier ≡ true → (x : Bool) → is_under word1_identifier b ≡ x → Stamped
-  unfolding stamp_fault
-  word_1 e true f = word_2 e f (is_under word2_identifier c) refl
-  word_1 e false f = rw (e, under_judged word1_identifier 1 b (c ∷ d ∷ r), f)
+  printed : stamp 0 ws ≡ stamp 0 (a ∷ b ∷ c ∷ d ∷ drop 4 ws)
+  printed = ap (stamp 0) (four ws long)
 
-  word_0 : (x : Bool) → eqb a stamp_identifier ≡ x → Stamped
-  unfolding stamp_fault
-  word_0 true e = word_1 e (is_under word1_identifier b) refl
-  word_0 false e = rw e
+  module _ (e : a ≡ stamp_identifier) where
+    is : eqb a stamp_identifier ≡ true
+    is = eq-eqb a stamp_identifier e
 
-pub stamp_judged : (ws : List ℕ) → 4 ≤ length ws → stamp 0 ws ≡ cond (eqb (stamp_fault ws) 4) (ok (stamp_at ws) 4 (drop 4 ws)) (refuse 10 (stamp_fault ws))
-stamp_judged [] h = absurd (omega arith)
-stamp_judged (a ∷ []) h = absurd (omega arith)
-stamp_judged (a ∷ b ∷ []) h = absurd (omega arith)
-stamp_judged (a ∷ b ∷ c ∷ []) h = absurd (omega arith)
-stamp_judged (a ∷ b ∷ c ∷ d ∷ r) h = word_0 a b c d r (eqb a stamp_identifier) refl
+    pub stamp_1 : {r : Refusal} → Err r ≡ under word1_identifier 1 b → Stamped ws (Err r)
+    stamp_1 q =
+        let f = under_refused word1_identifier 1 b q in
+        record { stamp = record { number = 10; place = 1; refused = printed ∙ rw (is, under_judged word1_identifier 1 b (c ∷ d ∷ drop 4 ws), f.0); named = f.1 } }
+
+    module _ {u : ℕ} (p : Ok u ≡ under word1_identifier 1 b) where
+      first : (eqb b (halves word1_identifier (b % 2 ^ 16)) ≡ true) × (u ≡ b % 2 ^ 16)
+      first = under_given word1_identifier 1 b p
+
+      pub stamp_2 : {r : Refusal} → Err r ≡ under word2_identifier 2 c → Stamped ws (Err r)
+      stamp_2 q =
+          let g = under_refused word2_identifier 2 c q in
+          record {
+            stamp = record {
+              number = 10;
+              place = 2;
+              refused = printed ∙ rw (is, under_judged word1_identifier 1 b (c ∷ d ∷ drop 4 ws), first.0, under_judged word2_identifier 2 c (d ∷ drop 4 ws), g.0);
+              named = g.1;
+            };
+          }
+
+      module _ {v : ℕ} (s : Ok v ≡ under word2_identifier 2 c) where
+        second : (eqb c (halves word2_identifier (c % 2 ^ 16)) ≡ true) × (v ≡ c % 2 ^ 16)
+        second = under_given word2_identifier 2 c s
+
+        pub stamp_3 : {r : Refusal} → Err r ≡ under word3_identifier 3 d → Stamped ws (Err r)
+        stamp_3 q =
+            let h = under_refused word3_identifier 3 d q in
+            record {
+              stamp = record {
+                number = 10;
+                place = 3;
+                refused = printed ∙ rw (
+                  is,
+                  under_judged word1_identifier 1 b (c ∷ d ∷ drop 4 ws),
+                  first.0,
+                  under_judged word2_identifier 2 c (d ∷ drop 4 ws),
+                  second.0,
+                  under_judged word3_identifier 3 d (drop 4 ws),
+                  h.0,
+                );
+                named = h.1;
+              };
+            }
+
+        pub stamp_given : {w : ℕ} → Ok w ≡ under word3_identifier 3 d → Stamped ws (Ok (row 16 u v w))
+        stamp_given t =
+            let third = under_given word3_identifier 3 d t in
+            record {
+              stamp = (
+                printed ∙ rw (
+                  is,
+                  under_judged word1_identifier 1 b (c ∷ d ∷ drop 4 ws),
+                  first.0,
+                  under_judged word2_identifier 2 c (d ∷ drop 4 ws),
+                  second.0,
+                  under_judged word3_identifier 3 d (drop 4 ws),
+                  third.0,
+                ),
+                rw (first.1, second.1, third.1),
+              );
+            }
 
 -- the loop over the scalers: the i stored, those left are stored as the whole would be
-pub record Scalers (ws : List ℕ) (n : ℕ) (rows₀ rows : List ℕ) (i : ℕ) : Type 0 where
-  pub inside : i ≤ n
-  pub same : length rows ≡ length rows₀
-  pub leads : store_rows rows (2 + i) (scaler_rows_from i (slice (5 + i) (5 + n) ws)) ≡ store_rows rows₀ 2 (scaler_rows_from 0 (slice 5 (5 + n) ws))
+pub record Scalers (vs rows₀ rows : List ℕ) (i : ℕ) : Type 0 where
+  pub leads : store_rows rows (2 + i) (scaler_rows_from i (drop i vs)) ≡ store_rows rows₀ 2 (scaler_rows_from 0 vs)
 
-module _ {ws : List ℕ} {n : ℕ} {rows₀ rows : List ℕ} {i : ℕ} (h : Scalers ws n rows₀ rows i) where
-  pub scalers_step : {w : ℕ} {rows' : List ℕ} → i < n → 5 + n ≤ length ws → w ≡ get_or ws (5 + i) 0 → rows' ≡ store_row rows (2 + i) (scaler_row i w) → length rows' ≡ length rows
-      → Scalers ws n rows₀ rows' (i + 1)
-  scalers_step below long e q z =
-      let one : suc (5 + i) ≡ 5 + (i + 1) = omega arith in
-      let left = slice (5 + (i + 1)) (5 + n) ws in
-      let more : slice (5 + i) (5 + n) ws ≡ get_or ws (5 + i) 0 ∷ left = at_word ws (5 + i) (5 + n) (omega arith) long ∙ ap (λ (m : ℕ). get_or ws (5 + i) 0 ∷ slice m (5 + n) ws) one in
-      let stored = store_row rows (2 + i) (scaler_row i (get_or ws (5 + i) 0)) in
-      let k : 2 + (i + 1) ≡ 2 + i + 1 = omega arith in
-      let j : i + 1 ≡ suc i = omega arith in
-      record {
-        inside = omega arith;
-        same = z ∙ h.same;
-        leads = rw (q, e)
-            (ap (λ (m : ℕ). store_rows stored m (scaler_rows_from (i + 1) left)) k ∙ ap (λ (m : ℕ). store_rows stored (2 + i + 1) (scaler_rows_from m left)) j
-            ∙ ap (λ (l : List ℕ). store_rows rows (2 + i) (scaler_rows_from i l)) (sym more) ∙ h.leads);
-      }
+pub scalers_step : {vs rows₀ rows rows' : List ℕ} {i : ℕ} → Scalers vs rows₀ rows i → i < length vs → rows' ≡ store_row rows (2 + i) (scaler_row i (get_or vs i 0)) → Scalers vs rows₀ rows' (i + 1)
+scalers_step {vs} {rows₀} {rows} {i = i} h below q =
+    let stored = store_row rows (2 + i) (scaler_row i (get_or vs i 0)) in
+    let k : 2 + (i + 1) ≡ 2 + i + 1 = omega arith in
+    let j : i + 1 ≡ suc i = omega arith in
+    record {
+      leads = rw q
+          (ap (λ (m : ℕ). store_rows stored m (scaler_rows_from (i + 1) (drop (i + 1) vs))) k
+          ∙ ap (λ (m : ℕ). store_rows stored (2 + i + 1) (scaler_rows_from m (drop (i + 1) vs))) j
+          ∙ ap (λ (l : List ℕ). store_rows rows (2 + i) (scaler_rows_from i l)) (sym (drop_more vs i 0 below)) ∙ h.leads);
+    }
 
-  pub scalers_end : n ≤ i → rows ≡ store_rows rows₀ 2 (scaler_rows_from 0 (slice 5 (5 + n) ws))
-  scalers_end l =
-      let m = h.inside in
-      let e : i ≡ n = omega arith in
-      rw (e, slice_empty (5 + n) ws) at h.leads
+pub scalers_end : {vs rows₀ rows : List ℕ} {i : ℕ} → Scalers vs rows₀ rows i → length vs ≤ i → rows ≡ store_rows rows₀ 2 (scaler_rows_from 0 vs)
+scalers_end {vs} {i = i} h l = rw (drop_all i vs l) at h.leads
 
 -- the scaler
 module _ (ws : List ℕ) (long : 7 ≤ length ws) where
@@ -107,22 +155,8 @@ module _ (ws : List ℕ) (long : 7 ≤ length ws) where
   from_header : drop 4 ws ≡ header ∷ slice 5 (length ws) ws
   from_header = to_the_end 4 ws ∙ at_word ws 4 (length ws) (omega arith) (le_refl (length ws))
 
-  abbrev Scaled : Result ℕ (List ℕ) → Type 0
+  abbrev Scaled : parser.Result ℕ (List ℕ) → Type 0
   Scaled x = scaler 4 (drop 4 ws) ≡ x
-
-  pub scaler_low : header < header_word scaler_geo 1 → Scaled (refuse 6 4)
-  scaler_low h = rw from_header (go in_layout refl)
-    where
-      go : (x : Bool) → in_layout ≡ x → scaler 4 (header ∷ slice 5 (length ws) ws) ≡ refuse 6 4
-      go true e = let z = eqb-true header (header_word scaler_geo (header % 2 ^ 6)) e in rw (e, lt-leb 1 (header % 2 ^ 6) (omega arith))
-      go false e = rw e
-
-  pub scaler_high : header_word scaler_geo 32 < header → Scaled (refuse 6 4)
-  scaler_high h = rw from_header (go in_layout refl)
-    where
-      go : (x : Bool) → in_layout ≡ x → scaler 4 (header ∷ slice 5 (length ws) ws) ≡ refuse 6 4
-      go true e = let z = eqb-true header (header_word scaler_geo (header % 2 ^ 6)) e in rw (e, le-leb 1 (header % 2 ^ 6) (omega arith), lt-leb (header % 2 ^ 6) 32 (omega arith))
-      go false e = rw e
 
   module _ {n : ℕ} (some : 1 ≤ n) (few : n ≤ 32) (h : header ≡ header_word scaler_geo n) where
     block : Scaled (block_of 4 n scaler_values scaler_footer 5 (slice 5 (length ws) ws))
@@ -130,10 +164,7 @@ module _ (ws : List ℕ) (long : 7 ≤ length ws) where
         let c : header % 2 ^ 6 ≡ n = omega arith in
         rw from_header (rw (eq-eqb header (header_word scaler_geo (header % 2 ^ 6)) (omega arith), c, le-leb 1 n some, le-leb n 32 few))
 
-    pub scaler_short : length ws < n + 6 → Scaled (refuse 5 4)
-    scaler_short s = block ∙ block_short 4 n 5 scaler_values scaler_footer ws (omega arith) (omega arith)
-
-    module _ (fits : (i : ℕ) → get_or ws i 0 < 2 ^ 32) (inside : n + 6 ≤ length ws) where
+    module _ (fits : (i : ℕ) → get_or ws i 0 < 2 ^ 32) (inside : 5 + n < length ws) where
       abbrev scalers : List ℕ
       scalers = slice 5 (5 + n) ws
 
@@ -155,20 +186,19 @@ module _ (ws : List ℕ) (long : 7 ≤ length ws) where
       pub scaler_footer_lem : (get_or ws (5 + n) 0 ≡ scaler_end → ⊥) → Scaled (refuse 9 (5 + n))
       scaler_footer_lem z = judged ∙ rw (ne_eqb (get_or ws (5 + n) 0) scaler_end z)
 
-      pub scaler_read : {before after : List ℕ} → get_or ws (5 + n) 0 ≡ scaler_end → after ≡ store_rows (store_rows before 1 (scaler_block_row n ∷ [])) 2 (scaler_rows_from 0 scalers)
-          → PartOf scaler_rows (scaler 4 (drop 4 ws)) ws 1 before after (Done (6 + n) (2 + n))
+      pub scaler_read : {before after : List ℕ} → get_or ws (5 + n) 0 ≡ scaler_end → after ≡ store_rows (store_row before 1 (scaler_block_row n)) 2 (scaler_rows_from 0 (take (5 + n - 5) (drop 5 ws)))
+          → PartOf scaler_rows (scaler 4 (drop 4 ws)) ws 1 before after (Ok (part (5 + n + 1) (2 + n)))
       scaler_read {before} z q =
           let size : length scalers ≡ n = length-slice 5 (5 + n) ws (omega arith) ∙ (let m : 5 + n - 5 ≡ n = omega arith in m) in
-          let next : 5 + n + 1 ≡ 6 + n = omega arith in
-          let one : suc (5 + n) ≡ 6 + n = omega arith in
-          let rest : slice (6 + n) (length ws) ws ≡ drop (6 + n) ws = sym (to_the_end (6 + n) ws) in
+          let one : suc (5 + n) ≡ 5 + n + 1 = omega arith in
+          let rest : slice (5 + n + 1) (length ws) ws ≡ drop (5 + n + 1) ws = sym (to_the_end (5 + n + 1) ws) in
           record {
             part = record {
               value = scalers;
-              parsed = judged ∙ rw (eq-eqb (get_or ws (5 + n) 0) scaler_end z, next, one, rest);
+              parsed = judged ∙ rw (eq-eqb (get_or ws (5 + n) 0) scaler_end z, one, rest);
               inside = omega arith;
               few = omega arith;
               counted = let c = scaler_count 0 scalers in omega arith;
-              stored = q ∙ rw size;
+              stored = q ∙ rw (lent 5 (5 + n) ws (omega arith), size);
             };
           }

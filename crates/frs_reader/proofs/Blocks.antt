@@ -1,16 +1,21 @@
 -- A block among the words: it does not fit, or it is its values and its footer.
 -- Assumes nothing.
-use Prim.Native.Nat.{ℕ, suc, ◌+◌, ◌≤◌, ◌<◌}
+use Prim.Native.Nat.{ℕ, suc, ◌+◌, ◌-◌, ◌≤◌, ◌<◌}
 use native.Mathlib.Nat.{le_refl}
 use native.Mathlib.Omega.{arith}
-use mathlib.Core.Path.{◌≡◌, ap, ◌∙◌}
+use mathlib.Core.Path.{◌≡◌, ap, sym, ◌∙◌}
 use mathlib.Core.List.{List, [], ◌∷◌}
-use lib.ListN.{length, get_or}
+use lib.ListN.{length, get_or, take, drop}
+use Rattle.std.proofs.lemmas.List.{drop-take}
 use lib.Seq.{slice, slice_empty}
 use Rattle.event.specs.Parser.{Result, ok, refuse, Parser, then, ◌>>=◌, filled, within}
 use Rattle.event.proofs.Loops.{within_slice, within_short}
 use Rattle.event.proofs.Turns.{at_word}
 use Rattle.frs_layout.specs.Reading.{block_of}
+
+-- a part of the words, as it is lent
+pub lent : (first end : ℕ) (ws : List ℕ) → first ≤ end → take (end - first) (drop first ws) ≡ slice first end ws
+lent first end ws h = let e : first + (end - first) ≡ end = omega arith in sym (drop-take first (end - first) ws) ∙ rw e
 
 module _ {A B : Type 0} (p n at : ℕ) (values : Parser ℕ A) (footer : A → Parser ℕ B) (ws : List ℕ) where
   abbrev Block : Result ℕ B → Type 0

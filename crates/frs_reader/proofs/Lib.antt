@@ -5,4 +5,5 @@ pub mod Beginning
 pub mod PatternUnit
 pub mod Begun
 pub mod Modules
+pub mod Values
 pub mod Scans

@@ -11,7 +11,10 @@ use Rattle.event.specs.Words.{halves}
 use Rattle.frs_layout.specs.Layout.{longword, datum_bits, value_word}
 use Rattle.event.proofs.Impossible.{impossible}
 use Rattle.frs_layout.specs.Reading.{value_of}
-use Rattle.frs_reader.specs.Longword.{is_header, header_fault, footer_fault}
+use Rattle.event.specs.declared.refusal.Refusal.{Refusal}
+use Rattle.event.specs.Refusal.{refusal}
+use Rattle.std.specs.Prelude.{Ok, Err}
+use Rattle.frs_reader.specs.Longword.{under, is_header, header_fault, footer_fault}
 
 -- two tests that hold together
 alike : (a b c d : ℕ) → (a ≡ b → c ≡ d) → (c ≡ d → a ≡ b) → eqb a b ≡ eqb c d
@@ -23,6 +26,35 @@ alike a b c d to from = go (eqb a b) refl
 
 pub under_test : (upper w : ℕ) → eqb (w / 2 ^ 16) upper ≡ eqb w (halves upper (w % 2 ^ 16))
 under_test upper w = alike (w / 2 ^ 16) upper w (halves upper (w % 2 ^ 16)) (λ e. omega arith) (λ e. omega arith)
+
+-- the data under an upper half, as the code finds it
+module _ (upper i w : ℕ) where
+  abbrev printed : Bool
+  printed = eqb w (halves upper (w % 2 ^ 16))
+
+  pub under_good : w / 2 ^ 16 ≡ upper → Ok (w % 2 ^ 16) ≡ under upper i w
+  unfolding under
+  under_good e = rw (← under_test upper w, eq-eqb (w / 2 ^ 16) upper e)
+
+  pub under_bad : (w / 2 ^ 16 ≡ upper → ⊥) → Err (refusal 10 i) ≡ under upper i w
+  unfolding under
+  under_bad h = rw (← under_test upper w, ne_eqb (w / 2 ^ 16) upper h)
+
+  pub under_given : {v : ℕ} → Ok v ≡ under upper i w → (printed ≡ true) × (v ≡ w % 2 ^ 16)
+  unfolding under
+  under_given {v} e = go printed refl e
+    where
+      go : (b : Bool) → printed ≡ b → Ok v ≡ cond b (Ok (w % 2 ^ 16)) (Err (refusal 10 i)) → (printed ≡ true) × (v ≡ w % 2 ^ 16)
+      go true h q = (h, cc)
+      go false h q = impossible cc
+
+  pub under_refused : {r : Refusal} → Err r ≡ under upper i w → (printed ≡ false) × (r ≡ refusal 10 i)
+  unfolding under
+  under_refused {r} e = go printed refl e
+    where
+      go : (b : Bool) → printed ≡ b → Err r ≡ cond b (Ok (w % 2 ^ 16)) (Err (refusal 10 i)) → (printed ≡ false) × (r ≡ refusal 10 i)
+      go true h q = impossible cc
+      go false h q = (h, cc)
 
 -- a footer: bits 31-16 are the GEO, the flag 4 and zeros
 pub footer_good : (geo w : ℕ) → w / 2 ^ 16 ≡ geo * 2 ^ 11 + 2 ^ 10 → 0 ≡ footer_fault geo w
@@ -62,6 +94,11 @@ denied false e t = sym e
 pub granted : (b : Bool) {c : Bool} → b ≡ c → not b ≡ false → c ≡ true
 granted true e t = sym e
 granted false e t = impossible cc
+
+-- a longword with another flag is no header
+pub no_flag : (w : ℕ) → (w / 2 ^ 24 % 2 ^ 3 ≡ 6 → ⊥) → (w / 2 ^ 24 % 2 ^ 3 ≡ 2 → ⊥) → false ≡ is_header w
+unfolding is_header
+no_flag w m n = rw (ne_eqb (w / 2 ^ 24 % 2 ^ 3) 6 m, ne_eqb (w / 2 ^ 24 % 2 ^ 3) 2 n)
 
 -- a module's header
 module _ (seen w : ℕ) where

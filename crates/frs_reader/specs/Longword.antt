@@ -1,11 +1,17 @@
 -- The refusal that one longword meets, as the code finds it: a set of bits holds the GEOs, or the channels, before (the contracts of private functions).
 -- Assumes nothing.
-use Rattle.std.specs.Prelude.{ℕ, ◌/◌, ◌%◌, ◌^◌, Bool, false, cond, ◌||◌, eqb}
+use Rattle.std.specs.Prelude.{ℕ, ◌/◌, ◌%◌, ◌^◌, Bool, false, cond, ◌||◌, eqb, Result, Ok, Err}
+use Rattle.event.specs.declared.refusal.Refusal.{Refusal}
 use Rattle.event.specs.Channels.{present}
-use Rattle.event.specs.Words.{between}
+use Rattle.event.specs.Refusal.{refusal}
+use Rattle.event.specs.Words.{halves, between}
 use Rattle.frs_layout.specs.Event.{scaler_geo, pattern_geo}
 use Rattle.frs_layout.specs.Layout.{footer_word, value_word}
 use Rattle.frs_layout.specs.Reading.{value_of}
+
+-- the data of a longword at place i, under the upper half given
+unfoldable pub under : (upper i w : ℕ) → Result ℕ Refusal
+under upper i w = cond (eqb w (halves upper (w % 2 ^ 16))) (Ok (w % 2 ^ 16)) (Err (refusal 10 i))
 
 -- a module's header, its GEO apart: flag 6 over 0, or flag 2 over a count
 unfoldable pub is_header : ℕ → Bool

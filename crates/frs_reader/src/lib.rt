@@ -12,32 +12,17 @@ ghost use Rattle.event.specs.Rows.{flat, room};
 ghost use Rattle.frs_layout.specs.Reading.{reading};
 
 use crate::scan::scan;
-use event::{Answer, refusal};
-
-// What a module's header leads to; a refusal's place is the header's.
-#[derive(Drop)]
-enum Opened {
-    Empty { geo: u32 },
-    // Data longwords up to `end`, where the footer stands.
-    Block { geo: u32, end: usize },
-    Refused { number: u32 },
-}
+use event::refusal::{Fault, Refusal, refuse};
 
 // Reads one event into rows, four elements each. A refused reading leaves every element as it was.
-pub fn read(words: &[u32], rows: &mut [u32]) -> Answer
+pub fn read(words: &[u32], rows: &mut [u32]) -> Result<usize, Refusal>
     ensures answer { result ≡ answer_of (in_room (room (length rows.old)) (reading words.now)) }
     ensures buffer { rows.new ≡ overlaid (flat (given (in_room (room (length rows.old)) (reading words.now)))) rows.old }
 {
     let mut none: [u32; 0] = [];
-    let checked = scan(words, &mut none);
-    let Answer::Accepted(count) = checked else {
-        return checked;
-    };
+    let count = scan(words, &mut none)?;
     if rows.len() / 4 < count {
-        return Answer::Refused {
-            number: refusal::ROOM,
-            place: count,
-        };
+        return refuse(Fault::Room, count);
     }
     scan(words, rows)
 }

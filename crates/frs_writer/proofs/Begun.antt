@@ -7,17 +7,18 @@ use mathlib.Core.List.{List, [], ◌∷◌, ◌++◌, append_assoc}
 use mathlib.Core.Option.{Option, some, none}
 use lib.ListN.{length, get_or, take, drop, length-append}
 use borrow.Rule.Slice.PartMut.{put_mid}
-use Rattle.event.specs.declared.Answer.{Answer}
-use Rattle.event.specs.declared.Answer.TheVariants as answer
+use Rattle.std.specs.Prelude.{Ok, Err}
 use Rattle.event.specs.declared.Part.{Part}
-use Rattle.event.specs.declared.Part.TheVariants.{Done, Refused}
+use Rattle.event.specs.declared.refusal.Refusal.{Refusal}
+use Rattle.event.specs.Refusal.{Answer, PartAnswer, part, verdict}
+use Rattle.event.proofs.Answers.{passed_test, failed_test}
 use Rattle.event.specs.declared.Row.{Row}
 use Rattle.event.specs.Parser.{ok, ended, optionally, many, each, if_any}
 use Rattle.event.specs.Words.{store_word}
 use Rattle.event.specs.Writing.{of_kind, no_row}
-use Rattle.event.specs.Scanning.{store_words, writing_all, writing_part, ScannedBy, LeadsBy, Writes}
+use Rattle.event.specs.Scanning.{store_words, writing_all, writing_part, ScannedBy, LeadsBy, RefusedAs, Writes}
 use Rattle.event.specs.Demands.{InWidth}
-use Rattle.event.proofs.Leads.{leads_part, store_append, scanned_refuse, begins_refused, begins_done}
+use Rattle.event.proofs.Leads.{leads_part, store_append}
 use Rattle.event.proofs.RowJudged.{row_taken, row_refused}
 use Rattle.event.proofs.Sequences.{codes_optionally}
 use Rattle.event.proofs.Ends.{placed}
@@ -49,23 +50,29 @@ leads_event rs {before} {at' = at'} s vs o p q r l t = rw (p, q, r, l, t) (leads
     (λ ms. ap (stamp_words s ++◌) (sym (append_assoc (scaler_words vs) (if_any pattern_words o) (each module_words ms)))))
 
 module _ (rs : List Row) (before : List ℕ) {r : Row} (e : r ≡ get_or rs 0 no_row) where
-  pub stamp_refused : {m : ℕ} {part : Part} {after : List ℕ} → m ≡ stamp_fault r → (m ≡ 0 → ⊥) → part ≡ Refused m 0 → Begins rs before after part
+  pub stamp_refused : {refused : Refusal} {after : List ℕ} → Err refused ≡ verdict (stamp_fault r) 0 → Begins rs before after (Err refused)
   unfolding stamp_fault
-  stamp_refused f z q = rw q (record { begun = rw (row_refused (of_kind 16) stamp_of stamp_row (stamp_checks 22) refl (λ s. (tt, (tt, (tt, tt)))) rs 0 e f z) })
+  stamp_refused q =
+      let t = failed_test (stamp_fault r) 0 q in
+      let u = row_refused (of_kind 16) stamp_of stamp_row (stamp_checks 22) refl (λ s. (tt, (tt, (tt, tt)))) rs 0 e {n = stamp_fault r} refl t.some in
+      record { begun = record { number = stamp_fault r; place = 0; refused = rw u; named = t.named } }
 
-  module _ (f : 0 ≡ stamp_fault r) where
+  module _ {u : Unit {0}} (q : Ok u ≡ verdict (stamp_fault r) 0) where
     stamped : (0 < length rs) × (stamp 0 rs ≡ ok (stamp_of r) 1 (drop 1 rs))
     unfolding stamp_fault
-    stamped = row_taken (of_kind 16) stamp_of stamp_row (stamp_checks 22) refl (λ s. (tt, (tt, (tt, tt)))) rs 0 e f
+    stamped = row_taken (of_kind 16) stamp_of stamp_row (stamp_checks 22) refl (λ s. (tt, (tt, (tt, tt)))) rs 0 e (passed_test (stamp_fault r) 0 q)
 
     pub block_there : 1 ≤ length rs
     block_there = stamped.0
 
-    abbrev ScalerIn : List ℕ → Part → List ℕ → Type 0
+    abbrev ScalerIn : List ℕ → PartAnswer → List ℕ → Type 0
     ScalerIn = Writes 32 scaler_words (scaler 1 (drop 1 rs)) rs 0
 
-    pub scaler_refused : {part part' after : List ℕ} {x : Part} {m p : ℕ} → ScalerIn part x part' → x ≡ Refused m p → Begins rs before after x
-    scaler_refused w q = rw q (record { begun = rw (stamped.1, unwritten 32 scaler_words (scaler 1 (drop 1 rs)) (rw q at w).scanned) })
+    pub scaler_refused : {lent lent' after : List ℕ} {refused : Refusal} → ScalerIn lent (Err refused) lent' → Begins rs before after (Err refused)
+    scaler_refused {after = after} {refused} w = go (unwritten 32 scaler_words (scaler 1 (drop 1 rs)) w.scanned)
+      where
+        go : RefusedAs (scaler 1 (drop 1 rs)) refused → Begins rs before after (Err refused)
+        go t = record { begun = record { number = t.number; place = t.place; refused = rw (stamped.1, t.refused); named = t.named } }
 
     -- the stamp and the scaler are written, as k longwords
     pub record Scaled (b : List ℕ) (at k : ℕ) : Type 0 where
@@ -76,35 +83,40 @@ module _ (rs : List Row) (before : List ℕ) {r : Row} (e : r ≡ get_or rs 0 no
       pub counted : k ≡ 4 + length (scaler_words values)
       pub stored : b ≡ store_words 32 before 0 (stamp_words (stamp_of r) ++ scaler_words values)
 
-    pub scaler_done : {b₁ b₂ part part' : List ℕ} {start at n : ℕ} {x : Part} → b₁ ≡ store_words 32 before 0 (stamp_words (stamp_of r)) → start ≡ min 4 (length b₁)
-        → part ≡ take (length b₁ - start) (drop start b₁)
-        → ScalerIn part x part' → x ≡ Done at n → b₂ ≡ put_mid start (length b₁ - start) b₁ part' → Scaled b₂ at (4 + n)
-    scaler_done {b₁} {b₂} {part} {part'} {start} {at} {n} stored s lent w q back = go (wrote 32 scaler_words (scaler 1 (drop 1 rs)) (rw q at w).scanned)
+    pub scaler_done : {b₁ b₂ lent lent' : List ℕ} {start : ℕ} {p : Part} → b₁ ≡ store_words 32 before 0 (stamp_words (stamp_of r)) → start ≡ min 4 (length b₁)
+        → lent ≡ take (length b₁ - start) (drop start b₁)
+        → ScalerIn lent (Ok p) lent' → b₂ ≡ put_mid start (length b₁ - start) b₁ lent' → Scaled b₂ p.next (4 + p.count)
+    scaler_done {b₁} {b₂} {lent} {lent'} {start} {p} stored s is w back = go (wrote 32 scaler_words (scaler 1 (drop 1 rs)) w.scanned)
       where
-        go : Wrote 32 scaler_words (scaler 1 (drop 1 rs)) 0 part at n part' → Scaled b₂ at (4 + n)
+        go : Wrote 32 scaler_words (scaler 1 (drop 1 rs)) 0 lent p.next p.count lent' → Scaled b₂ p.next (4 + p.count)
         go v =
             let vs = v.value in
             let l = placed codes_scaler rs 1 (omega (arith, stamped.0)) v.parsed in
             record {
               values = vs;
-              parsed = v.parsed ∙ ap (ok vs at) l.0;
+              parsed = v.parsed ∙ ap (ok vs p.next) l.0;
               inside = l.2;
               few = omega (arith, l.1, scaler_count 0 vs, v.counted, length-append vs (scaler_end ∷ []));
               counted = omega (arith, v.counted);
-              stored = part_written 32 (scaler_words vs) b₁ 4 s lent v.stored back ∙ rw stored;
+              stored = part_written 32 (scaler_words vs) b₁ 4 s is v.stored back ∙ rw stored;
             }
 
     -- and the pattern unit, if any
-    module _ {b₂ : List ℕ} {at k : ℕ} (t : Scaled b₂ at k) {part part' : List ℕ} {x : Part} (w : Writes 32 (if_any pattern_words) (optionally at_pattern pattern_unit at (drop at rs)) rs 0
-        part x part') where
-      pub pattern_refused : {after : List ℕ} {m p : ℕ} → x ≡ Refused m p → Begins rs before after x
-      pattern_refused q = rw q (record { begun = rw (stamped.1, t.parsed, unwritten 32 (if_any pattern_words) (optionally at_pattern pattern_unit at (drop at rs)) (rw q at w).scanned) })
+    module _ {b₂ : List ℕ} {at k : ℕ} (t : Scaled b₂ at k) where
+      abbrev PatternIn : List ℕ → PartAnswer → List ℕ → Type 0
+      PatternIn = Writes 32 (if_any pattern_words) (optionally at_pattern pattern_unit at (drop at rs)) rs 0
 
-      pub begins : {b₃ : List ℕ} {start at' n : ℕ} → start ≡ min k (length b₂) → part ≡ take (length b₂ - start) (drop start b₂) → x ≡ Done at' n → b₃ ≡ put_mid start (length b₂ - start) b₂ part'
-          → Begins rs before b₃ (Done at' (k + n))
-      begins {b₃} {start} {at'} {n} s lent q back = go (wrote 32 (if_any pattern_words) (optionally at_pattern pattern_unit at (drop at rs)) (rw q at w).scanned)
+      pub pattern_refused : {lent lent' after : List ℕ} {refused : Refusal} → PatternIn lent (Err refused) lent' → Begins rs before after (Err refused)
+      pattern_refused {after = after} {refused} w = go (unwritten 32 (if_any pattern_words) (optionally at_pattern pattern_unit at (drop at rs)) w.scanned)
         where
-          go : Wrote 32 (if_any pattern_words) (optionally at_pattern pattern_unit at (drop at rs)) 0 part at' n part' → Begins rs before b₃ (Done at' (k + n))
+          go : RefusedAs (optionally at_pattern pattern_unit at (drop at rs)) refused → Begins rs before after (Err refused)
+          go r = record { begun = record { number = r.number; place = r.place; refused = rw (stamped.1, t.parsed, r.refused); named = r.named } }
+
+      pub begins : {b₃ lent lent' : List ℕ} {start : ℕ} {p : Part} → start ≡ min k (length b₂) → lent ≡ take (length b₂ - start) (drop start b₂) → PatternIn lent (Ok p) lent' → b₃ ≡ put_mid start (length b₂ - start) b₂ lent'
+          → Begins rs before b₃ (Ok (part p.next (k + p.count)))
+      begins {b₃} {lent} {lent'} {start} {p} s is w back = go (wrote 32 (if_any pattern_words) (optionally at_pattern pattern_unit at (drop at rs)) w.scanned)
+        where
+          go : Wrote 32 (if_any pattern_words) (optionally at_pattern pattern_unit at (drop at rs)) 0 lent p.next p.count lent' → Begins rs before b₃ (Ok (part p.next (k + p.count)))
           go v =
               let o = v.value in
               let ss = scaler_words t.values in
@@ -112,38 +124,31 @@ module _ (rs : List Row) (before : List ℕ) {r : Row} (e : r ≡ get_or rs 0 no
               let l = placed (codes_optionally at_pattern codes_pattern (λ p g r. refl)) rs at t.inside v.parsed in
               let laid : k ≡ 0 + length (stamp_words (stamp_of r) ++ ss) = omega (arith, t.counted) in
               let stored : b₃ ≡ store_words 32 before 0 (first (stamp_of r) t.values o) =
-              part_written 32 ps b₂ k s lent v.stored back ∙ ap (λ (l : List ℕ). store_words 32 l k ps) t.stored
+              part_written 32 ps b₂ k s is v.stored back ∙ ap (λ (l : List ℕ). store_words 32 l k ps) t.stored
               ∙ ap (λ (m : ℕ). store_words 32 (store_words 32 before 0 (stamp_words (stamp_of r) ++ ss)) m ps) laid
               ∙ sym (store_append (store_word 32) before 0 (stamp_words (stamp_of r) ++ ss) ps) in
               record {
                 begun = record {
                   inside = l.2;
                   few = omega (arith, t.few, few_words o, v.counted, l.1);
-                  leads = leads_event rs (stamp_of r) t.values o stamped.1 t.parsed (v.parsed ∙ ap (ok o at') l.0) (omega (arith, t.counted, v.counted, length-append ss ps)) stored;
+                  leads = leads_event rs (stamp_of r) t.values o stamped.1 t.parsed (v.parsed ∙ ap (ok o p.next) l.0) (omega (arith, t.counted, v.counted, length-append ss ps)) stored;
                 };
               }
 
 -- from the parts before the modules to the event
-module _ {rs : List Row} {before b : List ℕ} {part : Part} (s : Begins rs before b part) where
-  abbrev Laid : Answer → List ℕ → Type 0
-  Laid = ScannedBy (writing_all 32) words (event_rows_up_to ended 0 rs) 0 before
+abbrev pub Laid : List Row → List ℕ → Answer → List ℕ → Type 0
+Laid rs before = ScannedBy (writing_all 32) words (event_rows_up_to ended 0 rs) 0 before
 
-  pub head_refused : {n p : ℕ} (after : List ℕ) → part ≡ Refused n p → Laid (answer.Refused n p) after
-  head_refused after q = scanned_refuse words 0 before after (begins_refused s q)
+module _ {rs : List Row} {before b : List ℕ} {begun : Part} (s : Begins rs before b (Ok begun)) where
+  module _ {r : PartAnswer} {after : List ℕ} (m : Writes 32 (each module_words) (many one_module geos ended [] begun.next (drop begun.next rs)) rs begun.count b r after) where
+    whole : ScannedBy (writing_part 32) words (event_rows_up_to ended 0 rs) 0 before r after
+    whole = s.begun.leads.leads r after m.scanned
 
-  module _ {at k : ℕ} (q : part ≡ Done at k) where
-    pub modules_there : (at ≤ length rs) × (k ≤ 4 * at)
-    modules_there = let h = begins_done s q in (h.inside, h.few)
+    pub event_refused : {refused : Refusal} → r ≡ Err refused → Laid rs before (Err refused) after
+    event_refused = all_refused 32 words whole
 
-    module _ {x : Part} {after : List ℕ} (m : Writes 32 (each module_words) (many one_module geos ended [] at (drop at rs)) rs k b x after) where
-      whole : ScannedBy (writing_part 32) words (event_rows_up_to ended 0 rs) 0 before x after
-      whole = (begins_done s q).leads.leads x after m.scanned
-
-      pub event_refused : {n p : ℕ} → x ≡ Refused n p → Laid (answer.Refused n p) after
-      event_refused = all_refused 32 words whole
-
-      pub event_laid : {j e : ℕ} → x ≡ Done j e → Laid (answer.Accepted e) after
-      event_laid = all_done 32 words whole
+    pub event_laid : {p : Part} → r ≡ Ok p → Laid rs before (Ok p.count) after
+    event_laid = all_done 32 words whole
 
 -- what an event taken is written as
 pub event_fits : (rs : List Row) (e : Event) (j : ℕ) (r : List Row) → event_rows_up_to ended 0 rs ≡ ok e j r → length (words e) ≤ largest_event → InWidth 32 (words e)

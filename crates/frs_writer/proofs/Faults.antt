@@ -21,6 +21,15 @@ found_first n set k e = go (eqb n 0) refl e
     go true h e = sym (eqb→eq n 0 (rw h tt))
     go false h e = e
 
+-- a refusal found stands
+pub found : {m n : ℕ} (set k : ℕ) → m ≡ n → (m ≡ 0 → ⊥) → m ≡ unless_seen n set k
+unfolding unless_seen
+found {m} set k e z = rw (← e, ne_eqb m 0 z)
+
+pub found_none : {n : ℕ} {b : Bool} (set k : ℕ) → 0 ≡ n → b ≡ present set (k % 32) → cond b 22 0 ≡ unless_seen n set k
+unfolding unless_seen
+found_none set k e p = rw (← e, ← p)
+
 -- that it is new stands last among the tests
 module _ {set : ℕ} {seen : List ℕ} (s : Blocked 0 set seen) (k : ℕ) where
   pub seen_last : (ts : List Test) → Numbered ts → (Passed ts → k < 32) → unless_seen (fault_in (ts ++ (test 22 (fresh k []) ∷ []))) set k ≡ fault_in (ts ++ (test 22 (fresh k seen) ∷ []))

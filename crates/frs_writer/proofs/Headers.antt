@@ -1,23 +1,25 @@
 -- A module's first row: the refusal that it meets, by its kind.
 -- Assumes nothing.
-use Prim.Native.Nat.{ℕ, ◌^◌, ◌≤◌, ◌<◌}
+use Prim.Native.Nat.{ℕ, ◌%◌, ◌^◌, ◌≤◌, ◌<◌}
 use native.Mathlib.Omega.{arith}
 use mathlib.Core.Path.{◌≡◌, refl, sym, ◌∙◌}
-use mathlib.Core.Bool.{Bool, true, false, not}
+use mathlib.Core.Bool.{Bool, true, false, cond, not}
+use mathlib.Core.Logic.{◌⊎◌, ⊎_elim}
 use mathlib.Core.List.{List, [], ◌∷◌, ◌++◌}
 use lib.Dec.{eqb, ltb, ltb→lt, leb→le}
 use borrow.Author.Tests.{eq-eqb, ne_eqb, eqb-true, eqb-false, lt-ltb, le-leb}
 use Rattle.event.specs.declared.Row.{Row}
 use Rattle.event.specs.Parser.{Test, test, fault_in}
-use Rattle.event.specs.Channels.{Blocked}
+use Rattle.event.specs.Channels.{present, Blocked}
 use Rattle.event.specs.Writing.{is_same_row, row_tests, of_kind}
 use Rattle.event.proofs.RowCodes.{same_fields, fields_same}
 use Rattle.event.proofs.RowFaults.{one_fails, all_hold}
 use Rattle.frs_layout.specs.Event.{scaler_geo, pattern_geo}
 use Rattle.frs_layout.specs.Layout.{empty_row, module_row, count_checks, counter_checks, geo_checks}
 use Rattle.frs_layout.specs.Writing.{starts_module, header_of, first_row, header_checks}
-use Rattle.frs_writer.specs.Faults.{geo_fault, header_field_fault, unless_seen, header_fault}
-use Rattle.frs_writer.proofs.Faults.{found_first, seen_last}
+use Rattle.frs_writer.specs.Faults.{header_field_fault, unless_seen, header_fault}
+use Rattle.frs_writer.proofs.RowFaults.{geo_fault}
+use Rattle.frs_writer.proofs.Faults.{found, found_none, found_first, seen_last}
 
 module _ (r : Row) where
   -- the tests after the kind
@@ -60,6 +62,30 @@ module _ (r : Row) where
 
     data_fields : 0 ≡ header_field_fault r → (r.unit < 2 ^ 5) × (1 ≤ r.channel) × (r.channel ≤ 32) × (r.datum < 2 ^ 16)
     data_fields f = let p = all_hold data_tests (tt, (tt, (tt, (tt, (tt, (tt, (tt, (tt, tt)))))))) (f ∙ sym by_data) in omega (arith, ltb→lt, leb→le)
+
+  -- what stands beside the GEO
+  abbrev pub Own : Type 0
+  Own = ((r.kind ≡ 20) × (r.channel ≡ 0) × (r.datum ≡ 0)) ⊎ ((r.kind ≡ 21) × (1 ≤ r.channel) × (r.channel ≤ 32) × (r.datum < 2 ^ 16))
+
+  own_geo : {n : ℕ} → Own → n ≡ geo_fault r.unit → n ≡ header_field_fault r
+  own_geo o f = ⊎_elim (λ p. empty_geo p.0 p.1 p.2 f) (λ p. data_geo p.0 p.1 p.2 p.3 f) o
+
+  -- the refusals in their order
+  module _ (set : ℕ) where
+    pub header_other : (r.kind ≡ 20 → ⊥) → (r.kind ≡ 21 → ⊥) → 21 ≡ header_fault set r
+    unfolding header_fault
+    header_other m n = found set r.unit (no_module m n) (λ e. omega arith)
+
+    pub header_wrong : 22 ≡ header_field_fault r → 22 ≡ header_fault set r
+    unfolding header_fault
+    header_wrong e = found set r.unit e (λ e. omega arith)
+
+    pub header_geo : Own → 22 ≡ geo_fault r.unit → 22 ≡ header_fault set r
+    header_geo o f = header_wrong (own_geo o f)
+
+    pub header_new : {b : Bool} → Own → 0 ≡ geo_fault r.unit → b ≡ present set (r.unit % 32) → cond b 22 0 ≡ header_fault set r
+    unfolding header_fault
+    header_new o f p = found_none set r.unit (own_geo o f) p
 
   -- what a row without fault keeps
   module _ (set : ℕ) (f : 0 ≡ header_fault set r) where

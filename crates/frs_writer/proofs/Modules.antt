@@ -8,8 +8,10 @@ use mathlib.Core.List.{List, [], ◌∷◌, ◌++◌, map}
 use lib.Dec.{ltb→lt}
 use lib.ListN.{length, get_or, take, drop, length-append, length-map}
 use borrow.Rule.Slice.PartMut.{put_mid}
+use Rattle.std.specs.Prelude.{Ok, Err}
 use Rattle.event.specs.declared.Part.{Part}
-use Rattle.event.specs.declared.Part.TheVariants.{Done, Refused}
+use Rattle.event.specs.declared.refusal.Refusal.{Refusal}
+use Rattle.event.specs.Refusal.{PartAnswer}
 use Rattle.event.specs.declared.Row.{Row}
 use Rattle.event.specs.Parser.{ended, many, each}
 use Rattle.event.specs.Channels.{insert, Blocked}
@@ -44,26 +46,27 @@ geo_of_row : (m : Module) (l : List Row) {r : Row} {l' : List Row} → module_ro
 geo_of_row (empty g) l {r} q = let u : empty_row g ≡ r = cc in ap (λ (x : Row). x.unit) u
 geo_of_row (with_data g vs c) l {r} q = let u : module_row g (length vs) c ≡ r = cc in ap (λ (x : Row). x.unit) u
 
-module _ {rs : List Row} {set first laid i k : ℕ} {b₀ b : List ℕ} (h : Modules rs set first laid b₀ i k b) where
-  abbrev Written : Part → List ℕ → Type 0
+module _ {rs : List Row} {set first laid : ℕ} {b₀ b : List ℕ} {written : Part} (h : Modules rs set first laid b₀ written.next written.count b) where
+  abbrev Written : PartAnswer → List ℕ → Type 0
   Written = Writes 32 (each module_words) (many one_module geos ended [] first (drop first rs)) rs laid b₀
 
-  pub modules_done : length rs ≤ i → Written (Done i k) b
+  pub modules_done : length rs ≤ written.next → Written (Ok written) b
   modules_done = parts_done 32 h
 
-  module _ (below : i < length rs) {start : ℕ} (s : start ≡ min k (length b)) {part : List ℕ} {written : Part} (w : WritesModule set rs i (take (length b - start) (drop start b)) written part) where
-    pub module_refused : {n p : ℕ} {r : Part} (after : List ℕ) → written ≡ Refused n p → r ≡ Refused n p → Written r after
-    module_refused after q z = rw z (part_refused 32 codes_module (λ m l. tt) tt go_on few_words h below s refl (w.writes h.state h.holds) after q)
+  module _ (below : written.next < length rs) {start : ℕ} (s : start ≡ min written.count (length b)) {lent : List ℕ} where
+    pub module_refused : {refused : Refusal} (after : List ℕ) → WritesModule set rs written.next (take (length b - start) (drop start b)) (Err refused) lent → Written (Err refused) after
+    module_refused after w = part_refused 32 codes_module (λ m l. tt) tt go_on few_words h below s refl (w.writes h.state h.holds) after refl
 
-    module _ {j n : ℕ} (q : written ≡ Done j n) where
-      pub module_within : (j ≤ length rs) × (i < j) × (k + n ≤ 4 * j)
-      module_within = part_within 32 codes_module (λ m l. tt) tt go_on few_words h below s refl (w.writes h.state h.holds) q
+    module _ {p : Part} (w : WritesModule set rs written.next (take (length b - start) (drop start b)) (Ok p) lent) where
+      pub module_within : (p.next ≤ length rs) × (written.next < p.next) × (written.count + p.count ≤ 4 * p.next)
+      module_within = part_within 32 codes_module (λ m l. tt) tt go_on few_words h below s refl (w.writes h.state h.holds) refl
 
-      pub module_taken : {r : Row} {set' : ℕ} → r ≡ get_or rs i no_row → set' ≡ insert set (r.unit % 32) → Modules rs set' first laid b₀ j (k + n) (put_mid start (length b - start) b part)
-      module_taken {r} {set'} e t = part_taken 32 codes_module (λ m l. tt) tt go_on few_words h below s refl (w.writes h.state h.holds) q seen refl
+      pub module_taken : {r : Row} {set' : ℕ} → r ≡ get_or rs written.next no_row → set' ≡ insert set (r.unit % 32)
+          → Modules rs set' first laid b₀ p.next (written.count + p.count) (put_mid start (length b - start) b lent)
+      module_taken {r} {set'} e t = part_taken 32 codes_module (λ m l. tt) tt go_on few_words h below s refl (w.writes h.state h.holds) refl seen refl
         where
-          seen : (m : Module) (l : List Row) → ValidModule h.state m → drop i rs ≡ module_rows m ++ l → Blocked 0 set' (geos h.state m)
+          seen : (m : Module) (l : List Row) → ValidModule h.state m → drop written.next rs ≡ module_rows m ++ l → Blocked 0 set' (geos h.state m)
           seen m l v z =
-              let g : geo_of m ≡ r.unit = geo_of_row m l (sym z ∙ rows_from_lem rs i below ∙ ap (◌∷ drop (i + 1) rs) (sym e)) in
+              let g : geo_of m ≡ r.unit = geo_of_row m l (sym z ∙ rows_from_lem rs written.next below ∙ ap (◌∷ drop (written.next + 1) rs) (sym e)) in
               let low : r.unit % 32 ≡ geo_of m = omega (arith, ltb→lt, v.0.0) in
               rw (t, low) (blocked_more (geo_of m) h.holds)

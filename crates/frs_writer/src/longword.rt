@@ -1,10 +1,10 @@
 // The longwords of an event, made of their fields.
 ghost use Rattle.std.specs.Prelude.{◌<◌, ◌^◌, ◌≡◌, [], ◌∷◌};
 ghost use Rattle.event.specs.Scanning.{store_words};
-ghost use Rattle.event.specs.Words.{halves};
+ghost use Rattle.event.specs.Words.{store_word, halves};
 ghost use Rattle.frs_layout.specs.Layout.{longword};
 
-use event::words::store_word32;
+use event::words::store_word;
 
 // An upper half over 16 data bits.
 pub(crate) fn halves(upper: u32, low: u32) -> u32
@@ -22,12 +22,18 @@ pub(crate) fn longword(geo: u32, flag: u32, low: u32) -> u32
     geo * 0x0800_0000 + flag * 0x0100_0000 + low
 }
 
-// Four longwords at the front, each where there is room for it.
-pub(crate) fn store_four(words: &mut [u32], a: u32, b: u32, c: u32, d: u32)
-    ensures { words.new ≡ store_words 32 words.old 0 (a ∷ b ∷ c ∷ d ∷ []) }
+// Stores a longword where there is room for it.
+pub(crate) fn store(words: &mut [u32], at: usize, w: u32)
+    ensures { words.new ≡ store_word 32 words.old at w }
 {
-    store_word32(words, 0, a);
-    store_word32(words, 1, b);
-    store_word32(words, 2, c);
-    store_word32(words, 3, d);
+    store_word(words, at, w as usize);
+}
+
+// Four longwords at the front, each where there is room for it.
+pub(crate) fn store_four(words: &mut [u32], four: [u32; 4])
+    ensures { words.new ≡ store_words 32 words.old 0 four }
+{
+    for (i, w) in four.iter().enumerate() {
+        store(words, i, *w);
+    }
 }

@@ -8,46 +8,38 @@ ghost use Rattle.frs_layout.specs.Writing.{one_module, event_rows_up_to};
 
 use crate::begin::begin;
 use crate::module::write_module;
+use event::Part;
 use event::channels::with_channel;
+use event::refusal::Refusal;
 use event::rows::row_at;
 use event::words::part_start;
-use event::{Answer, Part};
 
-// The modules from row `first` on, each in the part of the words that starts at its place.
-fn write_modules(rows: &[u32], first: usize, words: &mut [u32], laid: usize) -> Part
-    requires { (first ≤ length (rows_in rows.now)) × (laid ≤ 4 * first) }
-    ensures { Writes 32 (each module_words) (many one_module geos ended [] first (drop first (rows_in rows.now))) (rows_in rows.now) laid words.old result words.new }
+// The modules after what is written, each in the part of the words that starts at its place. (How many rows a module has is known only once it is written: so a
+// `while`.)
+fn write_modules(rows: &[u32], begun: Part, words: &mut [u32]) -> Result<Part, Refusal>
+    requires { (begun.next ≤ length (rows_in rows.now)) × (begun.count ≤ 4 * begun.next) }
+    ensures { Writes 32 (each module_words) (many one_module geos ended [] begun.next (drop begun.next (rows_in rows.now))) (rows_in rows.now) begun.count words.old result words.new }
 {
-    let mut i = first;
-    let mut at = laid;
+    let mut written = begun;
     let mut seen: u32 = 0;
-    while i < rows.len() / 4 {
-        let start = part_start(at, words.len());
-        let written = write_module(rows, i, seen, &mut words[start..]);
-        let Part::Done { next, count } = written else {
-            return written;
-        };
-        let row = row_at(rows, i);
+    while written.next < rows.len() / 4 {
+        let row = row_at(rows, written.next);
+        let start = part_start(written.count, words.len());
+        let module = write_module(rows, written.next, seen, &mut words[start..])?;
         seen = with_channel(seen, row.unit);
-        at += count;
-        i = next;
+        written = Part {
+            next: module.next,
+            count: written.count + module.count,
+        };
     }
-    Part::Done { next: i, count: at }
+    Ok(written)
 }
 
 // Writes the event's longwords, up to the first row that breaks a rule.
-pub(crate) fn write_event(rows: &[u32], words: &mut [u32]) -> Answer
+pub(crate) fn write_event(rows: &[u32], words: &mut [u32]) -> Result<usize, Refusal>
     ensures { ScannedBy (writing_all 32) words_of (event_rows_up_to ended 0 (rows_in rows.now)) 0 words.old result words.new }
 {
-    let written = begin(rows, words);
-    match written {
-        Part::Refused { number, place } => Answer::Refused { number, place },
-        Part::Done { next, count } => {
-            let written = write_modules(rows, next, words, count);
-            match written {
-                Part::Refused { number, place } => Answer::Refused { number, place },
-                Part::Done { next: _, count } => Answer::Accepted(count),
-            }
-        }
-    }
+    let begun = begin(rows, words)?;
+    let written = write_modules(rows, begun, words)?;
+    Ok(written.count)
 }

@@ -18,7 +18,7 @@ use Rattle.dialects.proofs.Widths.{by_width}
 use Rattle.hex_line.specs.Line.{letter, digits, is_digit, digit_of, all_digits, all_groups, well_formed, value_of, firsts, words_of, word_count, group_words, longest_line}
 use Rattle.hex_line.specs.Text.{character, hex_of}
 use Rattle.hex_line.specs.Exact.{LineExact}
-use Rattle.hex_line.proofs.LineLaws.{digit_lt, value_lt}
+use Rattle.hex_line.proofs.LineLaws.{digit_lt, value_lt, firsts_left, firsts_all}
 use Rattle.hex_line.proofs.TextLaws.{hex_length}
 
 -- both tests of two
@@ -110,17 +110,6 @@ hex_digits (suc n) w i l = go (ltb i n) refl (hex_digits n (w / 16) i)
     go false e h =
         let k = ltb-false i n e in
         rw (get_or_at (hex_of n (w / 16)) (character (w % 16)) [] 0 i (omega (arith, hex_length n (w / 16)))) (of_character (w % 16) (omega arith)).0
-
--- `firsts` from the left
-firsts_left : (f g : ℕ → ℕ) → ((i : ℕ) → f (suc i) ≡ g i) → (n : ℕ) → firsts f (suc n) ≡ f 0 ∷ firsts g n
-unfolding firsts
-firsts_left f g h zero = refl
-firsts_left f g h (suc n) = rw (h n, firsts_left f g h n)
-
-firsts_all : (P : ℕ → Type 0) (f : ℕ → ℕ) → ((i : ℕ) → P (f i)) → (n : ℕ) → All P (firsts f n)
-unfolding firsts
-firsts_all P f h zero = tt
-firsts_all P f h (suc n) = rw (firsts_left f (λ i. f (suc i)) (λ i. refl) n) (h 0, firsts_all P (λ i. f (suc i)) (λ i. h (suc i)) n)
 
 -- the text behind the letter, and the n words that stand from index `at` on
 abbrev groups_of : ℕ → List ℕ → List ℕ

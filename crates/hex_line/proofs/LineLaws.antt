@@ -1,61 +1,64 @@
 -- Laws of the definitions of a line, over the letter and the number of digits: what each turn of a loop finds. Assumes nothing.
-use mathlib.Core.Path.{◌≡◌, refl, sym, ◌∙◌}
+use mathlib.Core.Path.{◌≡◌, refl, sym, ap, ◌∙◌}
 use mathlib.Core.Bool.{Bool, true, false, cond, ◌&&◌, false≢true}
-use mathlib.Core.List.{List, [], ◌∷◌, ◌++◌}
+use mathlib.Core.List.{List, [], ◌∷◌, ◌++◌, map, append_assoc, map-append}
 use Prim.Native.Nat.{ℕ, zero, suc, ◌+◌, ◌-◌, ◌*◌, ◌%◌, ◌^◌, ◌≤◌, ◌<◌}
-use native.Mathlib.Nat.{not-suc-le-zero, mul-suc, pow-suc, pow-le-pow_right, mul-div-le}
-use native.Mathlib.Numerals.{add-one, sub-one}
+use native.Mathlib.Nat.{mul-suc, mul-zero, add-zero, sub-zero, mod-eq_of_lt, pow-suc, pow-le-pow_right, mul-div-le}
+use native.Mathlib.Numerals.{add-one}
 use native.Mathlib.Omega.{arith}
 use mathlib.Core.Logic.{◌≢◌}
 use lib.Dec.{ltb, leb, eqb, lit<}
-use lib.ListN.{length, get_or, drop, set, length-append, length-set}
-use borrow.Author.Tests.{le-leb, lt-leb, leb-true, leb-false}
-use Rattle.event.specs.declared.Answer.{Answer}
-use Rattle.event.specs.declared.Answer.TheVariants.{Accepted, Refused}
-use Rattle.event.specs.Outcome.{Outcome, done, given, answer_of, overlaid, in_word_room}
+use lib.ListN.{length, get_or, take, drop, set, length-append, length-map}
+use borrow.Author.Tests.{le-leb, lt-leb, leb-true, leb-false, eqb-true, eqb-false, eq-eqb, ne_eqb}
+use Rattle.std.specs.Prelude.{Ok, Err}
+use Rattle.std.specs.List.{list_all}
+use Rattle.event.specs.declared.refusal.Refusal.{Refusal}
+use Rattle.event.specs.Parser.{All}
+use Rattle.event.specs.Outcome.{Outcome, done, refused, given, answer_of, overlaid, in_word_room}
 use Rattle.event.proofs.Answers.{refused_by}
 use Rattle.event.proofs.Impossible.{impossible}
-use Rattle.event.proofs.WordStores.{store_next}
-use Rattle.hex_line.specs.Line.{is_digit, digit_of, value_of, all_digits, all_groups, well_formed, firsts, words_of, word_count, group_words, longest_line}
+use lib.Seq.{drop-cons, set_at}
+use Rattle.dialects.specs.declared.Dialect.{Dialect}
+use Rattle.dialects.specs.Dialects.{width, of_width, over16, over32}
+use Rattle.dialects.proofs.Widths.{by_width}
+use Rattle.hex_line.specs.Line.{letter, is_digit, digit_of, value_of, all_digits, all_groups, well_formed, firsts, words_of, word_count, overlaid_by, group_words, line_into, longest_line}
 
--- a test that counts down: at its end, and by what its first turn finds
-pub digits_none : (line : List ℕ) (at n : ℕ) → n ≤ 0 → all_digits line at n ≡ true
+-- the digits of a part of the line
+pub digits_listed : (line : List ℕ) (at n m : ℕ) → m ≡ n → at + n ≤ length line → list_all is_digit (take m (drop at line)) ≡ all_digits line at n
 unfolding all_digits
-digits_none line at zero h = refl
-digits_none line at (suc n) h = absurd (not-suc-le-zero h)
+digits_listed line at zero m e h = rw e
+digits_listed line at (suc n) m e h =
+    rw (e, drop-cons line at 0 (omega arith), ← add-one at) (ap (λ (b : Bool). is_digit (get_or line at 0) && b) (digits_listed line (at + 1) n n refl (omega arith)))
 
-pub digits_no : (line : List ℕ) (at n : ℕ) → 0 < n → is_digit (get_or line at 0) ≡ false → all_digits line at n ≡ false
-unfolding all_digits
-digits_no line at zero h e = absurd (not-suc-le-zero h)
-digits_no line at (suc n) h e = rw e
+-- groups, one by one: after i of them that stand, those that are left decide
+module _ (k : ℕ) (line : List ℕ) (at count : ℕ) where
+  pub record Left (i : ℕ) : Type 0 where
+    pub rest : all_groups k line at count ≡ all_groups k line (at + (k + 1) * i) (count - i)
 
-pub digits_yes : (line : List ℕ) (at n : ℕ) → 0 < n → is_digit (get_or line at 0) ≡ true
-    → all_digits line at n ≡ all_digits line (at + 1) (n - 1)
-unfolding all_digits
-digits_yes line at zero h e = absurd (not-suc-le-zero h)
-digits_yes line at (suc n) h e = rw (e, sub-one)
+  pub left_first : Left 0
+  left_first = record { rest = simp (mul-zero, add-zero, sub-zero) refl }
 
-module _ (k : ℕ) (line : List ℕ) (at : ℕ) where
-  pub groups_none : (n : ℕ) → n ≤ 0 → all_groups k line at n ≡ true
+  first_group : (p n m q : ℕ) → n ≡ m + 1 → q ≡ p + (k + 1) → all_groups k line p n ≡ (eqb (get_or line p 0) 32 && all_digits line (p + 1) k && all_groups k line q m)
   unfolding all_groups
-  groups_none zero h = refl
-  groups_none (suc n) h = absurd (not-suc-le-zero h)
+  first_group p n m q e f = rw (e, add-one m, f) refl
 
-  pub groups_no_space : (n : ℕ) → 0 < n → eqb (get_or line at 0) 32 ≡ false → all_groups k line at n ≡ false
-  unfolding all_groups
-  groups_no_space zero h e = absurd (not-suc-le-zero h)
-  groups_no_space (suc n) h e = rw e
+  module _ {i : ℕ} (p : Left i) (h : i < count) where
+    left_turn : all_groups k line at count
+        ≡ (eqb (get_or line (at + (k + 1) * i) 0) 32 && all_digits line (at + (k + 1) * i + 1) k && all_groups k line (at + (k + 1) * (i + 1)) (count - (i + 1)))
+    left_turn = p.rest ∙ first_group _ _ _ _ (omega arith) (rw (add-one i, mul-suc) (omega arith))
 
-  pub groups_no_digit : (n : ℕ) → 0 < n → eqb (get_or line at 0) 32 ≡ true → all_digits line (at + 1) k ≡ false → all_groups k line at n ≡ false
-  unfolding all_groups
-  groups_no_digit zero h s e = absurd (not-suc-le-zero h)
-  groups_no_digit (suc n) h s e = rw (s, e)
+    pub left_no_space : get_or line (at + (k + 1) * i) 0 ≢ 32 → false ≡ all_groups k line at count
+    left_no_space s = sym (left_turn ∙ rw (ne_eqb _ _ s))
 
-  pub groups_yes : (n : ℕ) → 0 < n → eqb (get_or line at 0) 32 ≡ true → all_digits line (at + 1) k ≡ true
-      → all_groups k line at n ≡ all_groups k line (at + (k + 1)) (n - 1)
+    pub left_no_digits : get_or line (at + (k + 1) * i) 0 ≡ 32 → all_digits line (at + (k + 1) * i + 1) k ≡ false → false ≡ all_groups k line at count
+    left_no_digits s d = sym (left_turn ∙ rw (eq-eqb _ _ s, d))
+
+    pub left_next : get_or line (at + (k + 1) * i) 0 ≡ 32 → all_digits line (at + (k + 1) * i + 1) k ≡ true → Left (i + 1)
+    left_next s d = record { rest = left_turn ∙ rw (eq-eqb _ _ s, d) }
+
+  pub left_none : {i : ℕ} → Left i → count ≤ i → true ≡ all_groups k line at count
   unfolding all_groups
-  groups_yes zero h s e = absurd (not-suc-le-zero h)
-  groups_yes (suc n) h s e = rw (s, e, sub-one)
+  left_none {i} p h = let z : count - i ≡ 0 = omega arith in sym (p.rest ∙ rw z)
 
 -- a line of the right form is not empty
 pub formed_long : (first k : ℕ) (line : List ℕ) → well_formed first k line ≡ true → 0 < length line
@@ -80,17 +83,11 @@ formed_short first k line h = go (leb (length line) longest_line) refl
     go false e = absurd (false≢true (sym (formed_too_long first k line (leb-false (length line) longest_line e)) ∙ h))
 
 -- a length that is not 0, and one that is
-pub length_some : (n : ℕ) → n ≢ 0 → leb 1 n ≡ true
-length_some zero h = absurd (h refl)
-length_some (suc n) h = le-leb 1 (suc n) (omega arith)
+pub length_some : (n : ℕ) → eqb n 0 ≡ false → leb 1 n ≡ true
+length_some n h = le-leb 1 n (let e = eqb-false n 0 h in omega arith)
 
-pub length_none : (n : ℕ) → n ≡ 0 → leb 1 n ≡ false
-length_none n e = lt-leb 1 n (omega arith)
-
--- one group less to go
-pub product_first : (w n : ℕ) → 0 < n → w * n ≡ w + w * (n - 1)
-product_first w zero h = absurd (not-suc-le-zero h)
-product_first w (suc n) h = rw (sub-one, mul-suc) (omega arith)
+pub length_none : (n : ℕ) → eqb n 0 ≡ true → leb 1 n ≡ false
+length_none n h = lt-leb 1 n (let e = eqb-true n 0 h in omega arith)
 
 -- a digit is below 16, and n digits are below 16 ^ n
 below : (b : Bool) (x y : ℕ) → cond b (x % 16) (y % 16) < 16
@@ -121,39 +118,83 @@ unfolding firsts
 firsts_length f zero = refl
 firsts_length f (suc n) = length-append (firsts f n) _ ∙ omega (arith, firsts_length f n)
 
-firsts_next : (f : ℕ → ℕ) (out : List ℕ) (k : ℕ) → k < length out
-    → set (firsts f k ++ drop k out) k (f k) ≡ firsts f (k + 1) ++ drop (k + 1) out
+firsts_next : {W : Type 0} (word_of : ℕ → W) (f : ℕ → ℕ) (out : List W) (k : ℕ) → k < length out
+    → set (overlaid_by word_of (firsts f k) out) k (word_of (f k)) ≡ overlaid_by word_of (firsts f (k + 1)) out
 unfolding firsts
-firsts_next f out k h = rw (add-one k, ← add-one k) (store_next (firsts f k) out k (f k) (firsts_length f k) h)
+firsts_next word_of f out k h =
+    let l : length (map word_of (firsts f k)) ≡ k = length-map (firsts f k) word_of ∙ firsts_length f k in
+    rw (add-one k, map-append word_of (firsts f k), length-append (firsts f k), firsts_length f k, drop-cons out k (word_of (f k)) h, append_assoc (map word_of (firsts f k)))
+    (set_at (map word_of (firsts f k)) _ _ _ k l ∙ rw (← add-one k))
+
+pub firsts_left : (f g : ℕ → ℕ) → ((i : ℕ) → f (suc i) ≡ g i) → (n : ℕ) → firsts f (suc n) ≡ f 0 ∷ firsts g n
+unfolding firsts
+firsts_left f g h zero = refl
+firsts_left f g h (suc n) = rw (h n, firsts_left f g h n)
+
+pub firsts_all : (P : ℕ → Type 0) (f : ℕ → ℕ) → ((i : ℕ) → P (f i)) → (n : ℕ) → All P (firsts f n)
+unfolding firsts
+firsts_all P f h zero = tt
+firsts_all P f h (suc n) = rw (firsts_left f (λ i. f (suc i)) (λ i. refl) n) (h 0, firsts_all P (λ i. f (suc i)) (λ i. h (suc i)) n)
+
+-- numbers below n are their low bits
+low_bits : (n : ℕ) (ws : List ℕ) → All (λ (w : ℕ). w < n) ws → map (λ (w : ℕ). w % n) ws ≡ ws
+low_bits n [] h = refl
+low_bits n (w ∷ ws) (h, g) = rw (mod-eq_of_lt h, low_bits n ws g)
+
+-- what a line gives: words of k digits
+given_below : (room first k : ℕ) (line : List ℕ) → All (λ (w : ℕ). w < 16 ^ k) (given (in_word_room room (group_words first k line)))
+given_below room first k line = go (well_formed first k line)
+  where
+    ws : List ℕ
+    ws = words_of k line (word_count k line)
+
+    in_room : (l : Bool) → All (λ (w : ℕ). w < 16 ^ k) (given (cond l (done ws) (refused 24 (length ws))))
+    in_room true = firsts_all _ _ (λ i. value_lt line (2 + (k + 1) * i) k) (word_count k line)
+    in_room false = tt
+
+    go : (f : Bool) → All (λ (w : ℕ). w < 16 ^ k) (given (in_word_room room (cond f (done ws) (refused 30 0))))
+    go true = in_room (leb (length ws) room)
+    go false = tt
+
+given_low : (room first k : ℕ) (line buffer : List ℕ)
+    → let ws = given (in_word_room room (group_words first k line)) in overlaid_by (λ (w : ℕ). w % 16 ^ k) ws buffer ≡ overlaid ws buffer
+given_low room first k line buffer =
+    let ws = given (in_word_room room (group_words first k line)) in ap (λ (l : List ℕ). l ++ drop (length ws) buffer) (low_bits (16 ^ k) ws (given_below room first k line))
+
+-- a line's words in the buffer of their width, which is 16, or is not
+module _ (d : Dialect) (short long line : List ℕ) where
+  pub words_short : width d ≡ 16 → {after : List ℕ} → after ≡ overlaid_by (λ (w : ℕ). w % 2 ^ 16) (given (in_word_room (length short) (group_words (letter d) 4 line))) short
+      → after ≡ over16 d (given (line_into d (length (of_width d short long)) line)) short
+  words_short e h = rw e (h ∙ given_low (length short) (letter d) 4 line short)
+
+  pub words_long : width d ≢ 16 → {after : List ℕ} → after ≡ overlaid_by (λ (w : ℕ). w % 2 ^ 32) (given (in_word_room (length long) (group_words (letter d) 8 line))) long
+      → after ≡ over32 d (given (line_into d (length (of_width d short long)) line)) long
+  words_long n h =
+      let e : width d ≡ 32 = by_width (λ (w : ℕ). w ≢ 16 → w ≡ 32) (λ m. absurd (m refl)) (λ m. refl) d n in
+      rw e (h ∙ given_low (length long) (letter d) 8 line long)
 
 -- a line's words, stored one by one behind the letter
-module _ (first k : ℕ) (line out : List ℕ) where
+module _ {W : Type 0} (word_of : ℕ → W) (first k : ℕ) (line : List ℕ) (out : List W) where
   abbrev stored : Outcome ℕ
   stored = in_word_room (length out) (group_words first k line)
 
   -- a refused line leaves the buffer as it was
-  pub refuse_line : {answer : Answer} {n p : ℕ} → answer ≡ answer_of stored → answer ≡ Refused n p
-      → (answer ≡ answer_of stored) × (out ≡ overlaid (given stored) out)
-  refuse_line e a = (e, rw (refused_by stored (sym a ∙ e)))
+  pub refuse_line : {r : Refusal} → Err r ≡ answer_of stored → out ≡ overlaid_by word_of (given stored) out
+  refuse_line e = let r = refused_by stored e in rw r.outcome
 
   -- with `count` words in all, i of them stand in the buffer
-  pub record Filled (count i : ℕ) (buffer : List ℕ) : Type 0 where
-    pub turns : i ≤ count
+  pub record Filled (count i : ℕ) (buffer : List W) : Type 0 where
     pub in_room : count ≤ length out
     pub in_line : 1 + (k + 1) * count ≤ length line
     pub its_words : stored ≡ done (words_of k line count)
-    pub same : length buffer ≡ length out
-    pub stands : buffer ≡ words_of k line i ++ drop i out
+    pub stands : buffer ≡ overlaid_by word_of (words_of k line i) out
 
-  pub fill_none : {answer : Answer} {count : ℕ} → answer ≡ answer_of stored → answer ≡ Accepted count → Filled count 0 out
+  pub fill_none : {count : ℕ} → Ok count ≡ answer_of stored → Filled count 0 out
   unfolding firsts
-  fill_none {answer} {count} e a = go (well_formed first k line) refl (leb (word_count k line) (length out)) refl
+  fill_none {count} h = go (well_formed first k line) refl (leb (word_count k line) (length out)) refl
     where
       n : ℕ
       n = word_count k line
-
-      h : Accepted count ≡ answer_of stored
-      h = sym a ∙ e
 
       go : (f : Bool) → well_formed first k line ≡ f → (r : Bool) → leb n (length out) ≡ r → Filled count 0 out
       go false f r l = let x = rw f at h in impossible cc
@@ -162,26 +203,20 @@ module _ (first k : ℕ) (line out : List ℕ) where
           let x = rw (f, firsts_length, l, firsts_length) at h in
           let c : count ≡ n = cc in
           rw c (record {
-            turns = omega arith;
             in_room = leb-true _ _ l;
             in_line = omega (arith, formed_long first k line f, mul-div-le (length line - 1) (k + 1));
             its_words = rw (f, firsts_length, l);
-            same = refl;
             stands = refl;
           })
 
-  pub fill_next : {count i v : ℕ} {buffer : List ℕ} → Filled count i buffer → i < count → v ≡ value_of line (2 + (k + 1) * i) k
+  pub fill_next : {count i : ℕ} {buffer : List W} {v : W} → Filled count i buffer → i < count → v ≡ word_of (value_of line (2 + (k + 1) * i) k)
       → Filled count (i + 1) (set buffer i v)
-  fill_next {count} {i} {v} {buffer} p l e = record {
-    turns = omega arith;
+  fill_next {count} {i} {buffer} {v} p l e = record {
     in_room = p.in_room;
     in_line = p.in_line;
     its_words = p.its_words;
-    same = simp length-set p.same;
-    stands = rw (p.stands, e) (firsts_next _ out i (omega arith));
+    stands = rw (p.stands, e) (firsts_next word_of _ out i (omega (arith, p.in_room)));
   }
 
-  pub fill_all : {count i : ℕ} {buffer : List ℕ} → Filled count i buffer → count ≤ i → buffer ≡ overlaid (given stored) out
-  fill_all {count} {i} {buffer} p l =
-      let e : i ≡ count = omega arith in
-      rw (p.its_words, firsts_length, ← e) p.stands
+  pub fill_all : {count : ℕ} {buffer : List W} → Filled count count buffer → buffer ≡ overlaid_by word_of (given stored) out
+  fill_all {count} {buffer} p = rw p.its_words p.stands

@@ -1,22 +1,18 @@
 -- Texts put into a buffer one behind another. Assumes nothing.
 use mathlib.Core.Path.{◌≡◌, refl, ap, sym, ◌∙◌}
-use mathlib.Core.List.{List, [], ◌∷◌, ◌++◌, append-nil}
-use Prim.Native.Nat.{ℕ, zero, suc, ◌+◌, ◌*◌, ◌/◌, ◌≤◌, ◌<◌}
-use native.Mathlib.Nat.{add-zero, zero-add, add_assoc, zero-mul, suc-mul}
+use mathlib.Core.Bool.{Bool, true, false}
+use lib.Dec.{leb}
+use mathlib.Core.List.{List, [], ◌++◌, append-nil, append_assoc}
+use Prim.Native.Nat.{ℕ, zero, suc, ◌+◌, ◌*◌, ◌-◌, ◌/◌, ◌%◌, ◌^◌, ◌≤◌, ◌<◌}
+use native.Mathlib.Nat.{add-zero, zero-add, add_assoc, zero-mul, suc-mul, pow-suc, div-div-eq-div-mul}
 use native.Mathlib.Numerals.{add-one}
 use native.Mathlib.Omega.{arith}
-use lib.ListN.{length, get_or, take, drop, set, length-append, length-take}
-use lib.Seq.{sets, drop-length, sets-eq, take_at, take-suc, length-take-le, length-sets}
-use borrow.Author.Tests.{le-leb, lt-leb}
+use lib.ListN.{length, take, drop, set, length-append, length-take}
+use borrow.Rule.Slice.PartMut.{put_mid}
+use lib.Seq.{sets, drop-drop, drop-length, sets-eq, take_at, length-sets}
+use borrow.Author.Tests.{le-leb}
 use Rattle.event.proofs.WordStores.{sets_append}
-use Rattle.hex_line.specs.Text.{hex_of, field, texts_below, put, end_of, Placed}
-
--- one character more of a text that is copied
-pub sets_copy : (buffer t : List ℕ) (at i : ℕ) → i < length t → set (sets buffer at (take i t)) (at + i) (get_or t i 0) ≡ sets buffer at (take (i + 1) t)
-sets_copy buffer t at i h =
-    ap (λ (j : ℕ). set (sets buffer at (take i t)) (at + j) (get_or t i 0)) (sym (length-take-le i t (omega arith)))
-    ∙ sets_append buffer (take i t) (get_or t i 0 ∷ []) at
-    ∙ rw (add-one i, take-suc t i 0 h)
+use Rattle.hex_line.specs.Text.{character, hex_of, field, texts_below, put, end_of, Placed}
 
 pub hex_length : (k n : ℕ) → length (hex_of k n) ≡ k
 unfolding hex_of
@@ -27,15 +23,36 @@ pub field_length : (label : List ℕ) (n : ℕ) → length (field label n) ≡ l
 unfolding field
 field_length label n = rw (length-append, hex_length)
 
--- a text of n characters, with room for all of it and without
-module _ (buffer : List ℕ) (at : ℕ) (t : List ℕ) {n : ℕ} (l : length t ≡ n) where
-  pub put_whole : at + n ≤ length buffer → {k : ℕ} {after : List ℕ} → k ≡ at + n → after ≡ sets buffer at t → (k ≡ end_of buffer at t) × (after ≡ put buffer at t)
-  unfolding put end_of
-  put_whole h e s = rw (l, le-leb _ _ h) (e, s)
+-- a text that is copied to its place
+pub copied : (buffer t : List ℕ) (at : ℕ) {k : ℕ} {part : List ℕ} → at + length t ≤ length buffer → k ≡ length t → part ≡ t → put_mid at k buffer part ≡ sets buffer at t
+copied buffer t at h e p = rw (p, e, drop-drop) (sym (sets-eq t buffer at h ∙ append_assoc (take at buffer) t _))
 
-  pub put_none : length buffer < at + n → (at ≡ end_of buffer at t) × (buffer ≡ put buffer at t)
+-- four bits more
+power : (j : ℕ) → 2 ^ (4 * suc j) ≡ 2 ^ (4 * j) * 16
+power j =
+    let e : 4 * suc j ≡ suc (suc (suc (suc (4 * j)))) = omega arith in
+    rw (e, pow-suc, pow-suc, pow-suc, pow-suc) (omega arith)
+
+-- the digits of a number, one by one from the most significant on
+pub digit_stored : (buffer : List ℕ) (at n i : ℕ) → i < 8 → let b = sets buffer at (hex_of i (n / 2 ^ (4 * (8 - i)))) in
+    set b (at + i) (character (n / 2 ^ (4 * (7 - i)) % 16)) ≡ sets buffer at (hex_of (i + 1) (n / 2 ^ (4 * (8 - (i + 1)))))
+unfolding hex_of
+digit_stored buffer at n i h =
+    let e : 8 - i ≡ suc (7 - i) = omega arith in
+    let f : 8 - (i + 1) ≡ 7 - i = omega arith in
+    let q : n / 2 ^ (4 * suc (7 - i)) ≡ n / 2 ^ (4 * (7 - i)) / 16 = rw (power (7 - i)) (sym (div-div-eq-div-mul n (2 ^ (4 * (7 - i))) 16)) in
+    let digits = hex_of i (n / 2 ^ (4 * (7 - i)) / 16) in
+    rw (e, f, q, add-one i) (ap (λ (k : ℕ). set (sets buffer at digits) (at + k) (character (n / 2 ^ (4 * (7 - i)) % 16))) (sym (hex_length i _)) ∙ sets_append buffer digits _ at)
+
+-- a text of n characters, by the test for its room: with room for all of it, and without
+module _ (buffer : List ℕ) (at : ℕ) (t : List ℕ) {n : ℕ} (l : length t ≡ n) {room : Bool} (e : room ≡ leb (at + n) (length buffer)) where
+  pub put_whole : room ≡ true → {k : ℕ} {after : List ℕ} → k ≡ at + n → after ≡ sets buffer at t → (k ≡ end_of buffer at t) × (after ≡ put buffer at t)
   unfolding put end_of
-  put_none h = rw (l, lt-leb _ _ h) (refl, refl)
+  put_whole h m s = rw (l, sym e ∙ h) (m, s)
+
+  pub put_none : room ≡ false → (at ≡ end_of buffer at t) × (buffer ≡ put buffer at t)
+  unfolding put end_of
+  put_none h = rw (l, sym e ∙ h) (refl, refl)
 
 -- one text behind another, with the places where they end
 pub placed_none : (buffer : List ℕ) (at : ℕ) → Placed buffer at [] at buffer

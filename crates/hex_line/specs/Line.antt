@@ -1,7 +1,7 @@
 -- A hexadecimal line (document 01, 'The hexadecimal lines'): the dialect's letter, then for each word a space and 4 or 8 lower-case
 -- hexadecimal digits. The line feed is no part of it.
 -- Assumes nothing.
-use Rattle.std.specs.Prelude.{Bool, true, cond, ◌&&◌, ◌||◌, List, [], ◌∷◌, ◌++◌, ℕ, zero, suc, ◌+◌, ◌-◌, ◌*◌, ◌/◌, ◌%◌, ltb, leb, eqb, length, get_or}
+use Rattle.std.specs.Prelude.{Bool, true, cond, ◌&&◌, ◌||◌, List, [], ◌∷◌, ◌++◌, ℕ, zero, suc, ◌+◌, ◌-◌, ◌*◌, ◌/◌, ◌%◌, ltb, leb, eqb, length, get_or, map, drop}
 use Rattle.event.specs.Outcome.{Outcome, done, refused, in_word_room}
 use Rattle.event.specs.Words.{between}
 use Rattle.dialects.specs.declared.Dialect.{Dialect}
@@ -69,6 +69,10 @@ firsts f (suc n) = firsts f n ++ (f n ∷ [])
 -- the line's first n words, of k digits each
 abbrev pub words_of : ℕ → List ℕ → ℕ → List ℕ
 words_of k line = firsts (λ (i : ℕ). value_of line (2 + (k + 1) * i) k)
+
+-- a buffer with the words of these numbers at its front
+abbrev pub overlaid_by : {W : Type 0} → (word_of : ℕ → W) → List ℕ → List W → List W
+overlaid_by word_of ws buffer = map word_of ws ++ drop (length ws) buffer
 
 -- the words of k digits each behind a letter: 30 unless the line is such a line
 abbrev pub group_words : ℕ → ℕ → List ℕ → Outcome ℕ

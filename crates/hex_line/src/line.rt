@@ -1,26 +1,32 @@
 // A line's characters as words: first the whole line is tested, then its words are stored, so that a refused line stores nothing.
 ghost use Rattle.std.specs.Prelude.{◌+◌, ◌*◌, ◌≤◌, ◌≡◌, length};
-ghost use Rattle.event.specs.Outcome.{answer_of, given, overlaid, in_word_room};
+ghost use Rattle.event.specs.Outcome.{answer_of, given, in_word_room};
 ghost use Rattle.dialects.specs.Dialects.{of_width, over16, over32};
-ghost use Rattle.hex_line.specs.Line.{letter, is_digit, digit_of, value_of, number_at, all_digits, all_groups, well_formed, group_words, line_into};
+ghost use Rattle.hex_line.specs.Line.{letter, is_digit, digit_of, value_of, number_at, all_digits, all_groups, well_formed, overlaid_by, group_words, line_into};
 
 use crate::text::has_room;
 use dialects::Dialect;
-use event::{Answer, refusal};
+use event::refusal::{Fault, Refusal, refuse};
+use event::words::Word;
 
 // The most characters of a line.
 pub const LONGEST_LINE: usize = 20481;
 
 // The words of a line of a dialect, in the buffer of their width: the other stays as it was.
-pub fn words(dialect: Dialect, line: &[u8], words: &mut [u16], longwords: &mut [u32]) -> Answer
+pub fn words(
+    dialect: Dialect,
+    line: &[u8],
+    words: &mut [u16],
+    longwords: &mut [u32],
+) -> Result<usize, Refusal>
     ensures answer { result ≡ answer_of (line_into dialect (length (of_width dialect words.old longwords.old)) line.now) }
     ensures words { words.new ≡ over16 dialect (given (line_into dialect (length (of_width dialect words.old longwords.old)) line.now)) words.old }
     ensures longwords { longwords.new ≡ over32 dialect (given (line_into dialect (length (of_width dialect words.old longwords.old)) line.now)) longwords.old }
 {
     if dialects::width(dialect) == 16 {
-        return fill16(line, letter(dialect), words);
+        return fill(line, letter(dialect), 4, words);
     }
-    fill32(line, letter(dialect), longwords)
+    fill(line, letter(dialect), 8, longwords)
 }
 
 // The number of the eight digits from `at` on, 0 where fewer than eight characters stand there.
@@ -44,79 +50,43 @@ fn letter(dialect: Dialect) -> u8
     }
 }
 
-// The words of four digits each behind a letter.
-fn fill16(line: &[u8], letter: u8, words: &mut [u16]) -> Answer
-    ensures answer { result ≡ answer_of (in_word_room (length words.old) (group_words letter 4 line.now)) }
-    ensures buffer { words.new ≡ overlaid (given (in_word_room (length words.old) (group_words letter 4 line.now))) words.old }
+// The words of so many digits each behind a letter.
+fn fill<W: Word>(line: &[u8], letter: u8, digits: usize, words: &mut [W]) -> Result<usize, Refusal>
+    requires { digits ≤ 8 }
+    ensures answer { result ≡ answer_of (in_word_room (length words.old) (group_words letter digits line.now)) }
+    ensures buffer { words.new ≡ overlaid_by W.of_number (given (in_word_room (length words.old) (group_words letter digits line.now))) words.old }
 {
-    let answer = count_words(line, letter, 4, words.len());
-    let Answer::Accepted(count) = answer else {
-        return answer;
-    };
-    let mut i = 0;
-    while i < count {
-        words[i] = value(line, 2 + 5 * i, 4) as u16;
-        i += 1;
+    let count = count_words(line, letter, digits, words.len())?;
+    for i in 0..count {
+        words[i] = W::of_low_bits(value(line, 2 + (digits + 1) * i, digits) as usize);
     }
-    answer
-}
-
-// The words of eight digits each behind a letter.
-fn fill32(line: &[u8], letter: u8, words: &mut [u32]) -> Answer
-    ensures answer { result ≡ answer_of (in_word_room (length words.old) (group_words letter 8 line.now)) }
-    ensures buffer { words.new ≡ overlaid (given (in_word_room (length words.old) (group_words letter 8 line.now))) words.old }
-{
-    let answer = count_words(line, letter, 8, words.len());
-    let Answer::Accepted(count) = answer else {
-        return answer;
-    };
-    let mut i = 0;
-    while i < count {
-        words[i] = value(line, 2 + 9 * i, 8);
-        i += 1;
-    }
-    answer
+    Ok(count)
 }
 
 // How many words of so many digits stand behind the letter, where there is room for them.
-fn count_words(line: &[u8], letter: u8, digits: usize, room: usize) -> Answer
+fn count_words(line: &[u8], letter: u8, digits: usize, room: usize) -> Result<usize, Refusal>
     requires { digits ≤ 8 }
     ensures { result ≡ answer_of (in_word_room room (group_words letter digits line.now)) }
 {
     if !well_formed(line, letter, digits) {
-        return Answer::Refused {
-            number: refusal::LINE,
-            place: 0,
-        };
+        return refuse(Fault::Line, 0);
     }
     let count = (line.len() - 1) / (digits + 1);
     if room < count {
-        return Answer::Refused {
-            number: refusal::WORDS,
-            place: count,
-        };
+        return refuse(Fault::Words, count);
     }
-    Answer::Accepted(count)
+    Ok(count)
 }
 
 fn well_formed(line: &[u8], letter: u8, digits: usize) -> bool
     requires { digits ≤ 8 }
     ensures { result ≡ well_formed letter digits line.now }
 {
-    if line.len() == 0 {
-        return false;
-    }
-    if LONGEST_LINE < line.len() {
-        return false;
-    }
-    if line[0] != letter {
+    if line.is_empty() || LONGEST_LINE < line.len() || line[0] != letter {
         return false;
     }
     let behind = line.len() - 1;
-    if behind % (digits + 1) != 0 {
-        return false;
-    }
-    all_groups(line, 1, digits, behind / (digits + 1))
+    behind % (digits + 1) == 0 && all_groups(line, 1, digits, behind / (digits + 1))
 }
 
 // `count` times a space and the digits of a word stand from `at` on.
@@ -124,17 +94,11 @@ fn all_groups(line: &[u8], at: usize, digits: usize, count: usize) -> bool
     requires { (digits ≤ 8) × (at + (digits + 1) * count ≤ length line.now) }
     ensures { result ≡ all_groups digits line.now at count }
 {
-    let mut next = at;
-    let mut left = count;
-    while left > 0 {
-        if line[next] != b' ' {
+    for i in 0..count {
+        let group = at + (digits + 1) * i;
+        if line[group] != b' ' || !all_digits(line, group + 1, digits) {
             return false;
         }
-        if !all_digits(line, next + 1, digits) {
-            return false;
-        }
-        next += digits + 1;
-        left -= 1;
     }
     true
 }
@@ -143,32 +107,16 @@ fn all_digits(line: &[u8], at: usize, count: usize) -> bool
     requires { at + count ≤ length line.now }
     ensures { result ≡ all_digits line.now at count }
 {
-    let mut next = at;
-    let mut left = count;
-    while left > 0 {
-        if !is_digit(line[next]) {
-            return false;
-        }
-        next += 1;
-        left -= 1;
-    }
-    true
+    line[at..at + count]
+        .iter()
+        .all(|character| is_digit(*character))
 }
 
 #[tactic(auto, unfolding(crate::specs::Line::is_digit))]
 fn is_digit(character: u8) -> bool
     ensures { result ≡ is_digit character }
 {
-    if character < b'0' {
-        return false;
-    }
-    if character <= b'9' {
-        return true;
-    }
-    if character < b'a' {
-        return false;
-    }
-    character <= b'f'
+    matches!(character, b'0'..=b'9' | b'a'..=b'f')
 }
 
 // The value of so many digits from `at` on.
@@ -177,10 +125,8 @@ fn value(line: &[u8], at: usize, digits: usize) -> u32
     ensures { result ≡ value_of line.now at digits }
 {
     let mut value: u32 = 0;
-    let mut i = 0;
-    while i < digits {
+    for i in 0..digits {
         value = value * 16 + digit(line[at + i]);
-        i += 1;
     }
     value
 }
@@ -190,9 +136,10 @@ fn value(line: &[u8], at: usize, digits: usize) -> u32
 fn digit(character: u8) -> u32
     ensures { result ≡ digit_of character }
 {
-    let code = character as u32;
-    if code < 58 {
-        return code % 16;
+    let code = u32::from(character);
+    if character <= b'9' {
+        code % 16
+    } else {
+        (code + 9) % 16
     }
-    (code + 9) % 16
 }

@@ -12,8 +12,9 @@ pub fn put_text(buffer: &mut [u8], at: usize, text: &[u8]) -> usize
     if !has_room(buffer.len(), at, text.len()) {
         return at;
     }
-    store_text(buffer, at, text);
-    at + text.len()
+    let end = at + text.len();
+    buffer[at..end].copy_from_slice(text);
+    end
 }
 
 // Puts the last eight hexadecimal digits of a number at `at`.
@@ -33,56 +34,27 @@ pub fn put_field(buffer: &mut [u8], at: usize, label: &[u8], number: u64) -> usi
     ensures end { result ≡ end_of buffer.old at (field label.now number) }
     ensures buffer { buffer.new ≡ put buffer.old at (field label.now number) }
 {
-    if !has_room(buffer.len(), at, 8) {
+    if !has_room(buffer.len(), at, 8) || buffer.len() - at - 8 < label.len() {
         return at;
     }
-    if buffer.len() - at - 8 < label.len() {
-        return at;
-    }
-    store_text(buffer, at, label);
-    put_number(buffer, at + label.len(), number)
+    let behind = put_text(buffer, at, label);
+    put_number(buffer, behind, number)
 }
 
 // Whether `count` characters from `at` on are within `length`.
 pub(crate) fn has_room(length: usize, at: usize, count: usize) -> bool
     ensures { result ≡ leb (at + count) length }
 {
-    if length < at {
-        return false;
-    }
-    count <= length - at
-}
-
-fn store_text(buffer: &mut [u8], at: usize, text: &[u8])
-    requires { at + length text.now ≤ length buffer.old }
-    ensures { buffer.new ≡ sets buffer.old at text.now }
-{
-    let mut i = 0;
-    while i < text.len() {
-        buffer[at + i] = text[i];
-        i += 1;
-    }
+    at <= length && count <= length - at
 }
 
 fn store_digits(buffer: &mut [u8], at: usize, number: u64)
     requires { at + 8 ≤ length buffer.old }
     ensures { buffer.new ≡ sets buffer.old at (hex_of 8 number) }
 {
-    let seven = number / 16;
-    let six = seven / 16;
-    let five = six / 16;
-    let four = five / 16;
-    let three = four / 16;
-    let two = three / 16;
-    let one = two / 16;
-    buffer[at] = digit(one % 16);
-    buffer[at + 1] = digit(two % 16);
-    buffer[at + 2] = digit(three % 16);
-    buffer[at + 3] = digit(four % 16);
-    buffer[at + 4] = digit(five % 16);
-    buffer[at + 5] = digit(six % 16);
-    buffer[at + 6] = digit(seven % 16);
-    buffer[at + 7] = digit(number % 16);
+    for i in 0..8 {
+        buffer[at + i] = digit((number >> (4 * (7 - i))) % 16);
+    }
 }
 
 // The character of a digit.
@@ -92,7 +64,8 @@ fn digit(value: u64) -> u8
     ensures { result ≡ character value }
 {
     if value < 10 {
-        return b'0' + value as u8;
+        b'0' + value as u8
+    } else {
+        b'a' - 10 + value as u8
     }
-    87 + value as u8
 }

@@ -8,13 +8,16 @@ use mathlib.Core.List.{List}
 use lib.Dec.{ltb, leb, eqb}
 use lib.ListN.{length}
 use borrow.Author.Tests.{leb-true, leb-false}
+use Rattle.std.specs.Prelude.{Err}
 use Rattle.event.specs.declared.Row.{Row}
 use Rattle.event.specs.declared.StampOrder.{StampOrder}
 use Rattle.event.specs.declared.StampOrder.TheVariants.{Crossed, Rising}
+use Rattle.event.specs.Refusal.{fault_of, refusal}
 use Rattle.event.specs.Parser.{Result, ok, refuse}
 use Rattle.event.specs.Outcome.{Outcome, done, refused, outcome, answer_of, order_of}
 use Rattle.dialects.specs.declared.Dialect.TheVariants.{S}
 use Rattle.dialects.proofs.Demands.{rows_within_words}
+use Rattle.dialects.proofs.Named.{of_reading}
 use Rattle.s800_layout.specs.Event.{Event}
 use Rattle.s800_layout.specs.Layout.{rows}
 use Rattle.s800_layout.specs.Reading.{event_parser, reading}
@@ -25,7 +28,11 @@ use Rattle.host.proofs.Checked.{too_many, small_places}
 
 module _ (o : StampOrder) (ws : List ℕ) where
   abbrev Parted : Outcome Row → Type 0
-  Parted x = Apart (packed (answer_of x)) (answer_of x)
+  Parted x = Apart (packed (answer_of x)) x
+
+  by_size : Apart (packed (Err (refusal 1 0))) (refused 1 0)
+  unfolding fault_of
+  by_size = (omega arith, omega arith, omega arith)
 
   of_reading_lem : Parted (reading o ws)
   of_reading_lem = sized (leb (length ws) 4096) refl
@@ -38,17 +45,18 @@ module _ (o : StampOrder) (ws : List ℕ) where
           (four, omega arith, omega arith, omega arith)
       go l (refused n k) e =
           let h : k < 2 ^ 32 = rw e at (small_places o ws (omega arith)) in
+          let m = of_reading S o ws n k e in
           ((refusals o ws n k e).0, omega arith, omega arith)
 
       sized : (b : Bool) → leb (length ws) 4096 ≡ b → Parted (reading o ws)
       sized true h = go (omega (arith, leb-true (length ws) 4096 h)) (reading o ws) refl
-      sized false h = rw (too_many o ws (leb-false (length ws) 4096 h)) (omega arith, omega arith, omega arith)
+      sized false h = rw (too_many o ws (leb-false (length ws) 4096 h)) by_size
 
 pub taken_apart : TakenApart
-unfolding checking
+unfolding checking fault_of
 taken_apart bytes order = go (ltb 1 order) (eqb (length bytes % 2) 0)
   where
-    go : (a b : Bool) → let x = cond a (refused 31 0) (cond b (reading (order_of order) (words_of bytes)) (refused 1 0)) in Apart (packed (answer_of x)) (answer_of x)
+    go : (a b : Bool) → let x = cond a (refused 31 0) (cond b (reading (order_of order) (words_of bytes)) (refused 1 0)) in Apart (packed (answer_of x)) x
     go true b = (omega arith, omega arith, omega arith)
     go false true = of_reading_lem (order_of order) (words_of bytes)
     go false false = (omega arith, omega arith, omega arith)

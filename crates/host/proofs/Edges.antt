@@ -4,6 +4,7 @@ use Prim.Native.Nat.{ℕ, ◌+◌, ◌-◌, ◌*◌, ◌^◌}
 use mathlib.Core.Path.{◌≡◌, refl}
 use mathlib.Core.List.{List, [], ◌∷◌, ◌++◌, map}
 use lib.ListN.{drop, replicate}
+use Rattle.event.specs.Refusal.{fault_of}
 use Rattle.host.specs.Check.{words_of, checking, host_answer}
 
 pub record Call : Type 0 where
@@ -62,5 +63,5 @@ calls =
     ∷ []
 
 pub edges : map (λ (c : Call). host_answer c.bytes c.order) calls ≡ map (λ (c : Call). c.answer) calls
-unfolding words_of checking
+unfolding words_of checking fault_of
 edges = refl

@@ -6,7 +6,8 @@ ghost use Rattle.event.specs.Outcome.{answer_of, overlaid};
 ghost use Rattle.s800_layout.specs.Reading.{reading};
 ghost use Rattle.host.specs.Check.{words_of, checking, packed, In32, host_answer};
 
-use event::{Answer, StampOrder, count_or_place, order_of, refusal, refusal_number};
+use event::StampOrder;
+use event::refusal::{Fault, Refusal, refuse};
 
 // The rows of the event in these bytes, low byte first, or 2^32 times a refusal number plus its place. Any bytes and any order may come in.
 pub fn s800_check(bytes: &[u8], order: u32) -> u64
@@ -16,46 +17,37 @@ pub fn s800_check(bytes: &[u8], order: u32) -> u64
 }
 
 // The answer as one number: the rows, or the refusal.
-fn packed(answer: Answer) -> u64
+fn packed(answer: Result<usize, Refusal>) -> u64
     requires { In32 answer }
     ensures { result ≡ packed answer }
 {
-    let Answer::Accepted(rows) = answer else {
-        return 0x1_0000_0000 * refusal_number(answer) as u64 + count_or_place(answer) as u64;
-    };
-    rows as u64
+    match answer {
+        Ok(rows) => rows as u64,
+        Err(refusal) => 0x1_0000_0000 * refusal.fault as u64 + refusal.place as u64,
+    }
 }
 
 // 31 first, then 1 for an odd byte count, then the check.
-fn answer_to(bytes: &[u8], order: u32) -> Answer
+fn answer_to(bytes: &[u8], order: u32) -> Result<usize, Refusal>
     ensures { result ≡ answer_of (checking bytes.now order) }
 {
     if 1 < order {
-        return Answer::Refused {
-            number: refusal::ORDER,
-            place: 0,
-        };
+        return refuse(Fault::Order, 0);
     }
     if bytes.len() % 2 != 0 {
-        return Answer::Refused {
-            number: refusal::SIZE, // an odd count
-            place: 0,
-        };
+        return refuse(Fault::Size, 0); // an odd count
     }
-    check_bytes(bytes, order_of(order))
+    check_bytes(bytes, StampOrder::from(order))
 }
 
 // Checks the words of the bytes.
-fn check_bytes(bytes: &[u8], order: StampOrder) -> Answer
+fn check_bytes(bytes: &[u8], order: StampOrder) -> Result<usize, Refusal>
     ensures { result ≡ answer_of (reading order (words_of bytes.now)) }
 {
     let size = bytes.len() / 2;
     // More words than any event has: the reading's own answer, whatever they are.
     if s800_format::LARGEST_EVENT < size {
-        return Answer::Refused {
-            number: refusal::SIZE,
-            place: 0,
-        };
+        return refuse(Fault::Size, 0);
     }
     // Most events are short, and the words of a short one are soon cleared.
     if size <= 256 {
@@ -67,25 +59,13 @@ fn check_bytes(bytes: &[u8], order: StampOrder) -> Answer
 }
 
 // Checks the words of the bytes, stored in `words`.
-fn check_in(bytes: &[u8], order: StampOrder, words: &mut [u16]) -> Answer
+fn check_in(bytes: &[u8], order: StampOrder, words: &mut [u16]) -> Result<usize, Refusal>
     requires { length bytes.now / 2 ≤ length words.old }
     ensures { result ≡ answer_of (reading order (words_of bytes.now)) }
 {
     let size = bytes.len() / 2;
     store_words(bytes, words);
-    check(&words[..size], order)
-}
-
-// Checks by a reading into no room: where all else holds it is 12, at the rows needed.
-fn check(words: &[u16], order: StampOrder) -> Answer
-    ensures { result ≡ answer_of (reading order words.now) }
-{
-    let mut none: [u32; 0] = [];
-    let answer = s800::read(words, order, &mut none);
-    if refusal_number(answer) == refusal::ROOM {
-        return Answer::Accepted(count_or_place(answer));
-    }
-    answer
+    s800::check(&words[..size], order)
 }
 
 // Stores the words of the bytes.
@@ -94,10 +74,8 @@ fn store_words(bytes: &[u8], words: &mut [u16])
     ensures { words.new ≡ overlaid (words_of bytes.now) words.old }
 {
     let size = bytes.len() / 2;
-    let mut i = 0;
-    while i < size {
+    for i in 0..size {
         words[i] = word(bytes[2 * i], bytes[2 * i + 1]);
-        i += 1;
     }
 }
 
@@ -105,5 +83,5 @@ fn store_words(bytes: &[u8], words: &mut [u16])
 fn word(low: u8, high: u8) -> u16
     ensures { result ≡ low + 256 * high }
 {
-    low as u16 + 256 * high as u16
+    u16::from(low) + 256 * u16::from(high)
 }

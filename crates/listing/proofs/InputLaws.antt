@@ -1,7 +1,7 @@
 -- Laws of the first line, and what is known of what comes next.
 -- Assumes nothing.
 use mathlib.Core.Path.{◌≡◌, refl}
-use mathlib.Core.Bool.{Bool, true, false}
+use mathlib.Core.Bool.{Bool, true, false, cond, not}
 use mathlib.Core.List.{List, [], ◌∷◌}
 use Prim.Native.Nat.{ℕ, zero, suc, ◌+◌, ◌≤◌, ◌<◌}
 use native.Mathlib.Numerals.{add-one}
@@ -10,26 +10,15 @@ use borrow.Author.Tests.{eq-eqb, ne_eqb, leb-true, leb-false, ltb-true, ltb-fals
 use lib.Dec.{eqb, leb, ltb}
 use lib.ListN.{length, get_or, drop, drop_of_length-le}
 use lib.Seq.{drop-cons}
+use Rattle.std.specs.Prelude.{Option, Some, None, position}
+use Rattle.std.specs.Option.{unwrap_or}
+use Rattle.std.specs.List.{position_or_len}
 use Rattle.event.proofs.Impossible.{impossible}
 use Rattle.hex_line.specs.Line.{longest_line}
 use Rattle.listing.specs.declared.Next.{Next}
 use Rattle.listing.specs.declared.Next.TheVariants.{Line, Long, More, End, Cut}
 use Rattle.listing.specs.Listing.{most_lines}
 use Rattle.listing.specs.Input.{first_line, next_of}
-
--- a line feed here, another character here, nothing left
-module _ (s : List ℕ) (i : ℕ) where
-  pub first_here : i < length s → get_or s i 0 ≡ 10 → first_line (drop i s) ≡ 0
-  unfolding first_line
-  first_here h e = rw (drop-cons s i 0 h, eq-eqb _ _ e)
-
-  pub first_on : i < length s → (get_or s i 0 ≡ 10 → ⊥) → i + first_line (drop i s) ≡ (i + 1) + first_line (drop (i + 1) s)
-  unfolding first_line
-  first_on h e = rw (drop-cons s i 0 h, ne_eqb _ _ e, add-one i) (omega arith)
-
-  pub first_none : length s ≤ i → first_line (drop i s) ≡ 0
-  unfolding first_line
-  first_none h = rw (drop_of_length-le s {i = i} h)
 
 pub first_within : (s : List ℕ) → first_line s ≤ length s
 unfolding first_line
@@ -39,6 +28,23 @@ first_within (c ∷ s) = go (eqb c 10) refl (first_within s)
     go : (b : Bool) → eqb c 10 ≡ b → first_line s ≤ length s → first_line (c ∷ s) ≤ length (c ∷ s)
     go true e h = rw e (omega arith)
     go false e h = rw e (omega arith)
+
+-- the first line feed by its position among the characters
+position_is : (s : List ℕ) → position_or_len (λ (c : ℕ). eqb c 10) s ≡ first_line s
+unfolding first_line
+position_is [] = refl
+position_is (c ∷ s) = go (eqb c 10) (position_is s)
+  where
+    go : (b : Bool) → position_or_len (λ (c : ℕ). eqb c 10) s ≡ first_line s → cond (not b) (1 + position_or_len (λ (c : ℕ). eqb c 10) s) 0 ≡ cond b 0 (suc (first_line s))
+    go true e = refl
+    go false e = omega arith
+
+pub found_line : (s : List ℕ) {feed : Option ℕ} → feed ≡ position (λ (c : ℕ). eqb c 10) s → unwrap_or feed (length s) ≡ first_line s
+found_line s {feed} e = rw (e, position_is s) (go (ltb (first_line s) (length s)) refl)
+  where
+    go : (b : Bool) → ltb (first_line s) (length s) ≡ b → unwrap_or (cond b (Some (first_line s)) None) (length s) ≡ first_line s
+    go true l = refl
+    go false l = omega (arith, ltb-false (first_line s) (length s) l, first_within s)
 
 -- what is known of each thing that may come next
 abbrev pub Known : (rest : List ℕ) (ended : Bool) (lines : ℕ) → Next → Type 0

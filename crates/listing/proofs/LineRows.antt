@@ -6,8 +6,9 @@ use mathlib.Core.Path.{◌≡◌, refl, sym, ◌∙◌}
 use mathlib.Core.List.{List, [], ◌∷◌}
 use lib.ListN.{length, get_or, take, drop}
 use lib.Seq.{take_at}
-use Rattle.event.specs.declared.Answer.{Answer}
-use Rattle.event.specs.declared.Answer.TheVariants.{Accepted, Refused}
+use Rattle.std.specs.Prelude.{Ok, Err}
+use Rattle.event.specs.declared.refusal.Refusal.{Refusal}
+use Rattle.event.specs.Refusal.{Answer}
 use Rattle.event.specs.declared.Row.{Row}
 use Rattle.event.specs.declared.StampOrder.{StampOrder}
 use Rattle.event.specs.Outcome.{Outcome, answer_of, given, overlaid}
@@ -20,11 +21,6 @@ use Rattle.dialects.proofs.Widths.{first_given}
 use Rattle.hex_line.specs.Line.{line_into}
 use Rattle.listing.specs.Listing.{and_then}
 
--- an empty line begins with no letter
-pub letter_none : (line : List ℕ) → length line ≡ 0 → get_or line 0 0 ≡ 0
-letter_none [] e = refl
-letter_none (x ∷ xs) e = absurd (omega arith)
-
 module _ (d : Dialect) (o : StampOrder) (line words longwords rows : List ℕ) where
   abbrev words_given : Outcome ℕ
   words_given = line_into d (length (of_width d words longwords)) line
@@ -35,15 +31,15 @@ module _ (d : Dialect) (o : StampOrder) (line words longwords rows : List ℕ) w
   abbrev RowsGiven : Answer → List ℕ → Type 0
   RowsGiven = Gives flat rows (and_then reads words_given)
 
-  pub not_words : {a : Answer} {n p : ℕ} → a ≡ answer_of words_given → a ≡ Refused n p → RowsGiven a rows
-  not_words e a = let q = refused_by words_given (sym a ∙ e) in record { answered = a ∙ rw q; written = rw q }
+  pub not_words : {r : Refusal} → Err r ≡ answer_of words_given → RowsGiven (Err r) rows
+  not_words e = let q = refused_by words_given e in record { answered = e ∙ rw q.outcome; written = rw q.outcome }
 
-  pub words_read : {k short long : ℕ} {words' longwords' rows' : List ℕ} {a r : Answer} → a ≡ answer_of words_given → a ≡ Accepted k
+  pub words_read : {k short long : ℕ} {words' longwords' rows' : List ℕ} {r : Answer} → Ok k ≡ answer_of words_given
       → words' ≡ over16 d (given words_given) words → longwords' ≡ over32 d (given words_given) longwords
       → short ≡ min k (length words') → long ≡ min k (length longwords')
       → (r ≡ answer_of (reads (of_width d (take short words') (take long longwords')))) × (rows' ≡ overlaid (flat (given (reads (of_width d (take short words') (take long longwords'))))) rows)
       → RowsGiven r rows'
-  words_read {k} {short} {long} {words'} {longwords'} {rows'} {a} {r} e c w l s t q = go (given_by words_given (sym c ∙ e))
+  words_read {k} {short} {long} {words'} {longwords'} {rows'} {r} e w l s t q = go (given_by words_given e)
     where
       go : Given words_given k → RowsGiven r rows'
       go g =

@@ -9,8 +9,8 @@ use mathlib.Core.List.{List, [], ◌∷◌, ◌++◌, append_assoc, append-nil}
 use lib.ListN.{length, get_or, take, length-append}
 use lib.Seq.{sets-eq}
 use borrow.Author.Tests.{le-leb, lt-leb}
-use Rattle.event.specs.declared.Answer.{Answer}
-use Rattle.event.specs.declared.Answer.TheVariants.{Accepted, Refused}
+use Rattle.std.specs.Prelude.{Ok, Err}
+use Rattle.event.specs.Refusal.{Answer}
 use Rattle.event.specs.declared.Row.{Row}
 use Rattle.event.specs.Outcome.{overlaid}
 use Rattle.event.specs.Parser.{each}
@@ -32,12 +32,12 @@ rows_length_lem (r ∷ rs) = length-append (row_text r) (each row_text rs) ∙ r
 
 pub answer_length_lem : (k : ℕ) (a : Answer) → length (answer_text k a) ≡ answer_length a
 unfolding accepted_text refused_text
-answer_length_lem k (Accepted n) = simp (length-append, field_length)
-answer_length_lem k (Refused n p) = simp (length-append, field_length)
+answer_length_lem k (Ok n) = simp (length-append, field_length)
+answer_length_lem k (Err r) = simp (length-append, field_length)
 
 pub answer_most : (a : Answer) → answer_length a ≤ refused_length
-answer_most (Accepted n) = omega arith
-answer_most (Refused n p) = omega arith
+answer_most (Ok n) = omega arith
+answer_most (Err r) = omega arith
 
 pub event_length : (k : ℕ) (a : Answer) (rs : List Row) → length (event_text k a rs) ≡ answer_length a + row_length * length rs
 unfolding event_text

@@ -1,7 +1,7 @@
 -- The characters of what is listed, whatever its numbers, and the most of a line that is not too long. (Contracts of private functions speak of them.)
 -- Assumes nothing.
 use Rattle.std.specs.Prelude.{ℕ, ◌+◌, ◌*◌, cond}
-use Rattle.event.specs.declared.Answer.{Answer}
+use Rattle.event.specs.Refusal.{Answer}
 use Rattle.event.specs.Outcome.{accepted}
 use Rattle.dialects.specs.declared.Dialect.TheVariants.{S}
 use Rattle.hex_line.specs.Line.{most_words}

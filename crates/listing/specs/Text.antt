@@ -1,7 +1,7 @@
 -- What is listed, as text (document 01, 'The hexadecimal lines'): numbers as eight hexadecimal digits.
 -- Assumes nothing.
 use Rattle.std.specs.Prelude.{ℕ, Bool, cond, List, [], ◌++◌, leb, length}
-use Rattle.event.specs.declared.Answer.{Answer}
+use Rattle.event.specs.Refusal.{Answer}
 use Rattle.event.specs.declared.Row.{Row}
 use Rattle.event.specs.Outcome.{accepted, refusal_number, count_or_place}
 use Rattle.event.specs.Parser.{each}

@@ -13,39 +13,26 @@ const MOST_LINES: u64 = 1000000;
 pub fn next_line(rest: &[u8], ended: bool, lines: u64) -> Next
     ensures { result ≡ next_of rest.now ended lines }
 {
-    if rest.len() == 0 {
-        if ended {
-            return Next::End;
-        }
-        return Next::More;
+    if rest.is_empty() {
+        return if ended { Next::End } else { Next::More };
     }
     if MOST_LINES <= lines {
         return Next::Cut;
     }
     let count = first_line(rest);
     if LONGEST_LINE < count {
-        return Next::Long(count);
+        Next::Long(count)
+    } else if ended || count < rest.len() {
+        Next::Line(count)
+    } else {
+        Next::More
     }
-    if ended {
-        return Next::Line(count);
-    }
-    if count < rest.len() {
-        return Next::Line(count);
-    }
-    Next::More
 }
 
 // How many characters stand before the first line feed, or all where there is none.
-#[tactic(auto, using(crate::proofs::InputLaws::first_here, crate::proofs::InputLaws::first_on, crate::proofs::InputLaws::first_none))]
 pub fn first_line(rest: &[u8]) -> usize
     ensures { result ≡ first_line rest.now }
 {
-    let mut i = 0;
-    while i < rest.len() {
-        if rest[i] == b'\n' {
-            return i;
-        }
-        i += 1;
-    }
-    i
+    let feed = rest.iter().position(|character| *character == b'\n');
+    feed.unwrap_or(rest.len())
 }

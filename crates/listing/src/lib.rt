@@ -10,7 +10,7 @@ pub use rows::{dialect_of_line, line_rows};
 pub use text::{LAST_LENGTH, MOST_TEXT, put_event, put_last};
 
 // What comes next of the characters that are not listed yet.
-#[derive(Clone, Copy)]
+#[derive(Clone, Copy, Debug, PartialEq, Eq)]
 pub enum Next {
     // A line of so many characters. Its line feed follows, or the input ends.
     Line(usize),

@@ -5,12 +5,13 @@ ghost use Rattle.event.specs.Outcome.{overlaid};
 ghost use Rattle.event.specs.Parser.{each};
 ghost use Rattle.event.specs.Rows.{room};
 ghost use Rattle.event.specs.Writing.{rows_in};
-ghost use Rattle.hex_line.specs.Text.{field, Placed};
+ghost use Rattle.hex_line.specs.Text.{Placed};
 ghost use Rattle.listing.specs.Text.{accepted_text, refused_text, answer_text, row_text, event_text, last_label, last_text, fitted};
-ghost use Rattle.listing.specs.Lengths.{accepted_length, refused_length, answer_length, row_length, last_length};
+ghost use Rattle.listing.specs.Lengths.{accepted_length, refused_length, answer_length, row_length};
 
+use event::refusal::Refusal;
 use event::rows::row_at;
-use event::{Answer, Row, accepts, count_or_place, refusal_number};
+use event::{Row, refusal_number};
 use hex_line::{LONGEST_LINE, put_field, put_number, put_text};
 
 // The characters of the answer for an accepted line and for a refused one, of a row, and of the last line.
@@ -26,15 +27,17 @@ pub const LAST_LENGTH: usize = 37;
 pub const MOST_TEXT: usize = REFUSED + ROW * ((LONGEST_LINE - 1) / 5);
 
 // Puts the answer for line `number` and its rows.
-pub fn put_event(number: u64, answer: Answer, rows: &[u32], text: &mut [u8]) -> usize
+pub fn put_event(
+    number: u64,
+    answer: Result<usize, Refusal>,
+    rows: &[u32],
+    text: &mut [u8],
+) -> usize
     ensures count { result ≡ length (fitted (length text.old) (event_text number answer (rows_in rows.now))) }
     ensures buffer { text.new ≡ overlaid (fitted (length text.old) (event_text number answer (rows_in rows.now))) text.old }
 {
     let head = answer_length(answer);
-    if text.len() < head {
-        return 0;
-    }
-    if (text.len() - head) / ROW < rows.len() / 4 {
+    if text.len() < head || (text.len() - head) / ROW < rows.len() / 4 {
         return 0;
     }
     let end = put_answer(text, number, answer);
@@ -49,39 +52,32 @@ pub fn put_last(cut: bool, accepted: u64, refused: u64, text: &mut [u8]) -> usiz
     if text.len() < LAST_LENGTH {
         return 0;
     }
-    let middle = put_events(text, cut, accepted);
+    let middle = put_field(text, 0, last_label(cut), accepted);
     let end = put_field(text, middle, b" refused ", refused);
     put_text(text, end, b"\n")
 }
 
-fn put_events(text: &mut [u8], cut: bool, accepted: u64) -> usize
-    requires { last_length ≤ length text.old }
-    ensures { Placed text.old 0 (field (last_label cut) accepted) result text.new }
+fn last_label(cut: bool) -> &'static [u8]
+    ensures { result.now ≡ last_label cut }
 {
-    if cut {
-        return put_field(text, 0, b"cut events ", accepted);
-    }
-    put_field(text, 0, b"end events ", accepted)
+    if cut { b"cut events " } else { b"end events " }
 }
 
 // How many characters the answer takes, whatever the line's number.
-fn answer_length(answer: Answer) -> usize
+fn answer_length(answer: Result<usize, Refusal>) -> usize
     ensures { result ≡ answer_length answer }
 {
-    if accepts(answer) {
-        return ACCEPTED;
-    }
-    REFUSED
+    if answer.is_ok() { ACCEPTED } else { REFUSED }
 }
 
-fn put_answer(text: &mut [u8], line: u64, answer: Answer) -> usize
+fn put_answer(text: &mut [u8], line: u64, answer: Result<usize, Refusal>) -> usize
     requires { answer_length answer ≤ length text.old }
     ensures { Placed text.old 0 (answer_text line answer) result text.new }
 {
-    let Answer::Accepted(count) = answer else {
-        return put_refused(text, line, refusal_number(answer), count_or_place(answer));
-    };
-    put_accepted(text, line, count)
+    match answer {
+        Ok(count) => put_accepted(text, line, count),
+        Err(refusal) => put_refused(text, line, refusal_number(answer), refusal.place),
+    }
 }
 
 fn put_accepted(text: &mut [u8], line: u64, count: usize) -> usize
@@ -98,7 +94,7 @@ fn put_refused(text: &mut [u8], line: u64, number: u32, place: usize) -> usize
     ensures { Placed text.old 0 (refused_text line number place) result text.new }
 {
     let middle = put_field(text, 0, b"event ", line);
-    let more = put_field(text, middle, b" refused ", number as u64);
+    let more = put_field(text, middle, b" refused ", u64::from(number));
     let end = put_field(text, more, b" place ", place as u64);
     put_text(text, end, b"\n")
 }
@@ -109,10 +105,8 @@ fn put_rows(text: &mut [u8], at: usize, rows: &[u32]) -> usize
     ensures { Placed text.old at (each row_text (rows_in rows.now)) result text.new }
 {
     let mut end = at;
-    let mut i = 0;
-    while i < rows.len() / 4 {
+    for i in 0..rows.len() / 4 {
         end = put_row(text, end, row_at(rows, i));
-        i += 1;
     }
     end
 }
@@ -121,9 +115,9 @@ fn put_row(text: &mut [u8], at: usize, row: Row) -> usize
     requires { at + row_length ≤ length text.old }
     ensures { Placed text.old at (row_text row) result text.new }
 {
-    let unit = put_number(text, at, row.kind as u64);
-    let channel = put_field(text, unit, b" ", row.unit as u64);
-    let datum = put_field(text, channel, b" ", row.channel as u64);
-    let end = put_field(text, datum, b" ", row.datum as u64);
+    let unit = put_number(text, at, u64::from(row.kind));
+    let channel = put_field(text, unit, b" ", u64::from(row.unit));
+    let datum = put_field(text, channel, b" ", u64::from(row.channel));
+    let end = put_field(text, datum, b" ", u64::from(row.datum));
     put_text(text, end, b"\n")
 }

@@ -13,8 +13,8 @@ use lib.Seq.{drop-cons}
 use borrow.Author.Tests.{eq-eqb, ne_eqb, eqb-true, eqb-false}
 use Rattle.event.specs.declared.Row.{Row}
 use Rattle.event.specs.Parser.{All}
-use Rattle.event.specs.Writing.{rows_in, no_row}
-use Rattle.event.proofs.RowsIn.{rows_count, row_there}
+use Rattle.event.specs.Writing.{rows_in, row_at, no_row}
+use Rattle.event.proofs.RowsIn.{rows_count}
 use Rattle.page_layout.specs.Plane.{hit_kind, is_hit, hits_at, Plane, at, Shape, OnPlane}
 use Rattle.page_layout.proofs.PlaneLaws.{plane_is, put, put_shape, put_same, put_other}
 use Rattle.page.specs.Counting.{with_hits}
@@ -89,36 +89,12 @@ module _ (plane : Plane) (rs : List Row) where
           go p l false q =
               omega (arith, put_other sum c.shape r.channel (at sum r.channel + 1) pad p (eqb-false p r.channel q), elsewhere p (eqb-false p r.channel q), c.counts p l)
 
--- rows in a buffer: the kind and the pad of row i
+-- a hit in a buffer of rows is of a pad on the plane
 module _ (xs : List ℕ) (i : ℕ) (h : i < length xs / 4) where
-  pub row_kind : get_or xs (i * 4) 0 ≡ (get_or (rows_in xs) i no_row).kind
-  row_kind = ap (λ (r : Row). r.kind) (row_there xs i h)
-
-  pub row_pad : get_or xs (i * 4 + 2) 0 ≡ (get_or (rows_in xs) i no_row).channel
-  row_pad = ap (λ (r : Row). r.channel) (row_there xs i h)
-
   pub row_inside : i < length (rows_in xs)
   row_inside = rw (rows_count xs) h
 
-  pub on_plane : OnPlane (rows_in xs) → get_or xs (i * 4) 0 ≡ hit_kind → (get_or (rows_in xs) i no_row).channel < 256
+  pub on_plane : OnPlane (rows_in xs) → (row_at xs i).kind ≡ hit_kind → (row_at xs i).channel < 256
   on_plane o e =
-      let t : eqb (get_or (rows_in xs) i no_row).kind hit_kind ≡ true = eq-eqb _ hit_kind (sym row_kind ∙ e) in
+      let t : eqb (row_at xs i).kind hit_kind ≡ true = eq-eqb _ hit_kind e in
       all_at (λ (r : Row). T (is_hit r) → r.channel < 256) no_row (rows_in xs) i o row_inside (subst T (sym t) tt)
-
-  pub pad_below : OnPlane (rows_in xs) → get_or xs (i * 4) 0 ≡ hit_kind → get_or xs (i * 4 + 2) 0 < 256
-  pad_below o e = rw row_pad (on_plane o e)
-
-  -- the turns of a loop over the buffer
-  module _ (plane : Plane) (o : OnPlane (rows_in xs)) (sum : Plane) (c : Counting plane (rows_in xs) i sum) where
-    pub miss : (get_or xs (i * 4) 0 ≡ hit_kind → ⊥) → Counting plane (rows_in xs) (i + 1) sum
-    miss ne = counting_miss plane (rows_in xs) i row_inside sum c (λ e. ne (row_kind ∙ e))
-
-    module _ (e : get_or xs (i * 4) 0 ≡ hit_kind) where
-      abbrev pad : ℕ
-      pad = get_or xs (i * 4 + 2) 0
-
-      pub under : at sum pad + 1 ≤ at plane pad + length (rows_in xs)
-      under = rw row_pad (counting_under plane (rows_in xs) i row_inside sum c (sym row_kind ∙ e) (on_plane o e))
-
-      pub hit : Counting plane (rows_in xs) (i + 1) (put sum (pad / 64) (pad % 64) (at sum pad + 1))
-      hit = rw row_pad (counting_hit plane (rows_in xs) i row_inside sum c (sym row_kind ∙ e) (on_plane o e))

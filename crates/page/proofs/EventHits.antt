@@ -8,10 +8,11 @@ use mathlib.Core.List.{List, [], ◌∷◌, ◌++◌}
 use lib.ListN.{length, take, drop, length-append}
 use lib.Seq.{take_at}
 use borrow.Author.Tests.{le-leb}
-use Rattle.event.specs.declared.Answer.{Answer}
-use Rattle.event.specs.declared.Answer.TheVariants.{Accepted, Refused}
+use Rattle.std.specs.Prelude.{Ok, Err}
+use Rattle.event.specs.declared.refusal.Refusal.{Refusal}
 use Rattle.event.specs.declared.Row.{Row}
 use Rattle.event.specs.declared.StampOrder.{StampOrder}
+use Rattle.event.specs.Refusal.{Answer}
 use Rattle.event.specs.Parser.{All, each}
 use Rattle.event.specs.Outcome.{Outcome, done, refused, in_room, answer_of, given, overlaid, default_order}
 use Rattle.event.specs.Rows.{flat, room}
@@ -62,11 +63,11 @@ module _ {o : StampOrder} {ws rows : List ℕ} {r : Answer} (read : Read o ws ro
   answered : r ≡ answer_of (reading default_order ws)
   answered = read.answer ∙ ap answer_of into
 
-  pub no_rows : {n k : ℕ} → r ≡ Refused n k → (plane : Plane) → Shape plane → plane ≡ with_hits (rows_of ws) plane
+  pub no_rows : {q : Refusal} → r ≡ Err q → (plane : Plane) → Shape plane → plane ≡ with_hits (rows_of ws) plane
   unfolding rows_of
-  no_rows q plane s = rw (refused_by (reading default_order ws) (sym q ∙ answered)) (none_more plane s)
+  no_rows q plane s = rw (refused_by (reading default_order ws) (sym q ∙ answered)).outcome (none_more plane s)
 
-  module _ {count : ℕ} (q : r ≡ Accepted count) where
+  module _ {count : ℕ} (q : r ≡ Ok count) where
     abbrev g : Given (reading default_order ws) count
     g = given_by (reading default_order ws) (sym q ∙ answered)
 

@@ -1,72 +1,78 @@
 -- Laws of the calls: the lengths of the events held, what is answered to an event, an event found.
 -- Assumes nothing.
-use Prim.Native.Nat.{ℕ, ◌+◌, ◌-◌, ◌*◌, ◌%◌, ◌≤◌, ◌<◌}
+use Prim.Native.Nat.{ℕ, ◌+◌, ◌-◌, ◌*◌, ◌≤◌, ◌<◌, min}
 use native.Mathlib.Omega.{arith}
 use mathlib.Core.Path.{◌≡◌, refl, sym, ap, ◌∙◌}
 use mathlib.Core.Bool.{Bool, true, false, cond}
-use mathlib.Core.List.{List, []}
-use lib.Dec.{leb, ltb}
-use lib.ListN.{length, get_or, set, take, drop}
-use lib.Seq.{paste}
-use borrow.Author.Tests.{leb-true, ltb-true, le-leb, lt-leb, lt-ltb, le-ltb}
-use Rattle.event.specs.declared.Answer.{Answer}
-use Rattle.event.specs.declared.Answer.TheVariants.{Accepted, Refused}
+use mathlib.Core.List.{List}
+use lib.Dec.{leb, ltb, eqb}
+use lib.ListN.{length, set, take, drop}
+use borrow.Author.Tests.{leb-true, ltb-true, ltb-false, eqb-true, le-leb, lt-leb, lt-ltb, le-ltb}
+use borrow.Rule.Slice.PartMut.{put_mid}
+use Rattle.std.specs.Prelude.{Ok, Err}
+use Rattle.std.proofs.lemmas.Slice.{put_mid-paste}
+use Rattle.event.specs.declared.refusal.Refusal.{Refusal}
 use Rattle.event.specs.declared.Row.{Row}
+use Rattle.event.specs.Refusal.{Answer, refusal, verdict}
 use Rattle.event.specs.Outcome.{Outcome, done, refused, answer_of, default_order}
 use Rattle.event.proofs.Answers.{refused_by, given_by}
 use Rattle.event.proofs.Impossible.{impossible}
 use Rattle.s800_layout.specs.Reading.{reading}
-use Rattle.page_layout.specs.declared.Update.{Update}
 use Rattle.page_layout.specs.declared.Page.{Page}
-use Rattle.page_layout.specs.Plane.{table}
-use Rattle.page_layout.specs.Page.{slot_of, length_of, event_at, sound, if_read, adding, with_newest, added, added_room, finding, read_back}
-use Rattle.page_layout.proofs.Tables.{table_ext}
-use Rattle.page_layout.proofs.SoundPages.{same_slot}
+use Rattle.page_layout.specs.Page.{slot_of, place_of, length_of, event_at, sound, if_sound, if_read, adding, with_newest, added, added_room, dropping, dropped, finding, read_back}
+use Rattle.page_layout.proofs.Queue.{held_length}
+use Rattle.page_layout.proofs.Calls.{reads_back}
+use Rattle.page.specs.Found.{page_fault, IsFound}
 
--- the lengths by a first slot below 64
-abbrev pub lengths_from : (first count : ℕ) (stored : List ℕ) → List ℕ
-lengths_from first count stored = table count (λ k. get_or stored ((first + k) % 64) 0)
-
-pub lengths_are : (p : Page) → lengths_from (p.first % 64) p.count p.lengths ≡ table p.count (length_of p)
-lengths_are p = table_ext p.count _ (length_of p) (λ k h. ap (λ (s : ℕ). get_or p.lengths s 0) (omega arith))
-
-pub slot_part : (p : Page) (room : List ℕ) (k : ℕ) → let s = (p.first % 64 + k) % 64 in
-    take (1024 * s + get_or p.lengths s 0 - 1024 * s) (drop (1024 * s) room) ≡ event_at p room k
+-- the part of the room that is an event's
+pub slot_part : (p : Page) (room : List ℕ) (k : ℕ) → take (place_of p k + length_of p k - place_of p k) (drop (place_of p k) room) ≡ event_at p room k
 slot_part p room k =
-    let e : 1024 * slot_of p k + length_of p k - 1024 * slot_of p k ≡ length_of p k = omega arith in
-    rw (same_slot p k, e)
+    let e : place_of p k + length_of p k - place_of p k ≡ length_of p k = omega arith in
+    rw e
 
 -- ---- what is answered
 
-module _ (x : Outcome Row) (a r : Answer) (e : r ≡ answer_of x) where
-  pub read_refused : {n k : ℕ} → r ≡ Refused n k → r ≡ if_read x a
-  read_refused h = rw (h, refused_by x (sym h ∙ e))
+module _ (p : Page) (room : ℕ) where
+  pub is_sound : {u : Unit {0}} → Ok u ≡ verdict (page_fault p room) 0 → sound p room ≡ true
+  is_sound {u} = go (sound p room)
+    where
+      go : (b : Bool) → Ok u ≡ verdict (cond b 0 28) 0 → b ≡ true
+      go true e = refl
+      go false e = impossible cc
 
-  pub read_accepted : {n : ℕ} → r ≡ Accepted n → if_read x a ≡ a
-  read_accepted h = rw (given_by x (sym h ∙ e)).outcome
+  pub is_unsound : {r : Refusal} → Err r ≡ verdict (page_fault p room) 0 → (a : Answer) → Err r ≡ if_sound p room a
+  is_unsound {r} = go (sound p room)
+    where
+      go : (b : Bool) → Err r ≡ verdict (cond b 0 28) 0 → (a : Answer) → Err r ≡ cond b a (Err (refusal 28 0))
+      go true e a = impossible cc
+      go false e a = let q : r ≡ refusal 28 0 = cc in ap Err q
+
+  pub drop_unsound : {r : Refusal} → Err r ≡ verdict (page_fault p room) 0 → (Err r ≡ (dropped p room).answer) × (p ≡ (dropped p room).page)
+  unfolding dropped dropping
+  drop_unsound e = let a = is_unsound e _ in (a, rw (← a))
 
 module _ (p : Page) (ws : List ℕ) (room : ℕ) where
-  pub add_unsound : sound p room ≡ false → Refused 28 0 ≡ adding p ws room
+  pub add_unsound : {r : Refusal} → Err r ≡ verdict (page_fault p room) 0 → Err r ≡ adding p ws room
   unfolding adding
-  add_unsound h = rw h
+  add_unsound e = is_unsound p room e _
 
-  module _ (s : sound p room ≡ true) (r : Answer) (e : r ≡ answer_of (reading default_order ws)) where
-    pub add_refused : {n k : ℕ} → r ≡ Refused n k → r ≡ adding p ws room
+  module _ (s : sound p room ≡ true) where
+    pub add_refused : {r : Refusal} → Err r ≡ answer_of (reading default_order ws) → Err r ≡ adding p ws room
     unfolding adding
-    add_refused h = rw s (read_refused (reading default_order ws) _ r e h)
+    add_refused e = let x = refused_by (reading default_order ws) e in rw (s, x.outcome) (ap Err x.named)
 
-    module _ {m : ℕ} (a : r ≡ Accepted m) where
-      pub add_long : 1024 < length ws → Refused 26 (length ws) ≡ adding p ws room
+    module _ {m : ℕ} (a : Ok m ≡ answer_of (reading default_order ws)) where
+      pub add_long : 1024 < length ws → Err (refusal 26 (length ws)) ≡ adding p ws room
       unfolding adding
-      add_long h = rw (s, read_accepted (reading default_order ws) _ r e a, lt-leb (length ws) 1024 h)
+      add_long h = rw (s, (given_by (reading default_order ws) a).outcome, lt-leb (length ws) 1024 h)
 
-      pub add_more : length ws ≤ 1024 → p.count < 64 → Accepted (p.count + 1) ≡ adding p ws room
+      pub add_held : length ws ≤ 1024 → Ok (min 64 (p.count + 1)) ≡ adding p ws room
       unfolding adding
-      add_more h c = rw (s, read_accepted (reading default_order ws) _ r e a, le-leb (length ws) 1024 h, lt-ltb p.count 64 c)
-
-      pub add_full : length ws ≤ 1024 → 64 ≤ p.count → Accepted 64 ≡ adding p ws room
-      unfolding adding
-      add_full h c = rw (s, read_accepted (reading default_order ws) _ r e a, le-leb (length ws) 1024 h, le-ltb p.count 64 c)
+      add_held h = rw (s, (given_by (reading default_order ws) a).outcome, le-leb (length ws) 1024 h) (ap Ok (go (ltb p.count 64) refl))
+        where
+          go : (b : Bool) → ltb p.count 64 ≡ b → min 64 (p.count + 1) ≡ cond b (p.count + 1) 64
+          go true e = omega (arith, ltb-true p.count 64 e)
+          go false e = omega (arith, ltb-false p.count 64 e)
 
   -- what is known where an event is to be added
   pub record Adds (n : ℕ) : Type 0 where
@@ -76,63 +82,64 @@ module _ (p : Page) (ws : List ℕ) (room : ℕ) where
     pub short : length ws ≤ 1024
     pub then : n ≡ cond (ltb p.count 64) (p.count + 1) 64
 
-  pub adds : (n : ℕ) → adding p ws room ≡ Accepted n → Adds n
+  pub adds : (n : ℕ) → adding p ws room ≡ Ok n → Adds n
   unfolding adding
   adds n = go (sound p room) refl (reading default_order ws) refl (leb (length ws) 1024) refl
     where
       go : (s : Bool) → sound p room ≡ s → (x : Outcome Row) → reading default_order ws ≡ x → (b : Bool) → leb (length ws) 1024 ≡ b
-          → cond s (if_read x (cond b (Accepted (cond (ltb p.count 64) (p.count + 1) 64)) (Refused 26 (length ws)))) (Refused 28 0) ≡ Accepted n → Adds n
+          → cond s (if_read x (cond b (Ok (cond (ltb p.count 64) (p.count + 1) 64)) (Err (refusal 26 (length ws))))) (Err (refusal 28 0)) ≡ Ok n → Adds n
       go false e x f b g h = impossible cc
       go true e (refused m k) f b g h = impossible cc
       go true e (done rs) f false g h = impossible cc
       go true e (done rs) f true g h = record { is_sound = e; rows = rs; read = f; short = leb-true (length ws) 1024 g; then = cc }
 
-  -- the turn of an event that is added
-  pub added_more : (n : ℕ) → adding p ws room ≡ Accepted n → p.count < 64
-      → ◌≡◌ {A = Update} (record { answer = Accepted n; page = record { first = p.first; count = n; lengths = set p.lengths ((p.first % 64 + p.count) % 64) (length ws) } }) (added p ws room)
+  -- the page and the room behind it
+  pub page_more : {n : ℕ} → Ok n ≡ adding p ws room → p.count < 64
+      → ◌≡◌ {A = Page} (record { first = p.first; count = n; lengths = set p.lengths (slot_of p p.count) (length ws) }) (added p ws room).page
   unfolding added with_newest
-  added_more n e h =
-      let t : n ≡ p.count + 1 = (adds n e).then ∙ rw (lt-ltb p.count 64 h) in
-      rw (e, lt-ltb p.count 64 h, same_slot p p.count, t)
+  page_more {n} e h =
+      let t : n ≡ p.count + 1 = (adds n (sym e)).then ∙ rw (lt-ltb p.count 64 h) in
+      rw (← e, lt-ltb p.count 64 h, t)
 
-  pub added_full : (n : ℕ) → adding p ws room ≡ Accepted n → 64 ≤ p.count
-      → ◌≡◌ {A = Update} (record {
-        answer = Accepted n;
-        page = record { first = (p.first % 64 + 1) % 64; count = p.count; lengths = set p.lengths ((p.first % 64 + p.count) % 64) (length ws) };
-      }) (added p ws room)
+  pub page_full : {n : ℕ} → Ok n ≡ adding p ws room → 64 ≤ p.count
+      → ◌≡◌ {A = Page} (record { first = slot_of p 1; count = p.count; lengths = set p.lengths (slot_of p p.count) (length ws) }) (added p ws room).page
   unfolding added with_newest
-  added_full n e h = rw (e, le-ltb p.count 64 h, same_slot p p.count, same_slot p 1)
+  page_full e h = rw (← e, le-ltb p.count 64 h)
 
-  pub added_none : (r : Answer) {n k : ℕ} → r ≡ adding p ws room → r ≡ Refused n k → ◌≡◌ {A = Update} (record { answer = r; page = p }) (added p ws room)
+  pub page_kept : {r : Refusal} → Err r ≡ adding p ws room → p ≡ (added p ws room).page
   unfolding added
-  added_none r e h = rw (← e, h)
+  page_kept e = rw (← e)
+
+  pub answered : {a : Answer} → a ≡ adding p ws room → a ≡ (added p ws room).answer
+  unfolding added
+  answered e = e
 
 module _ (p : Page) (ws room : List ℕ) where
-  pub room_kept : (r : Answer) {n k : ℕ} → r ≡ adding p ws (length room) → r ≡ Refused n k → room ≡ added_room p ws room
+  pub room_kept : {r : Refusal} → Err r ≡ adding p ws (length room) → room ≡ added_room p ws room
   unfolding added_room
-  room_kept r e h = rw (← e, h)
+  room_kept e = rw (← e)
 
-  pub room_added : (n : ℕ) → adding p ws (length room) ≡ Accepted n → paste room (1024 * ((p.first % 64 + p.count) % 64)) ws (length ws) ≡ added_room p ws room
+  pub room_added : {n : ℕ} → Ok n ≡ adding p ws (length room) → {s : ℕ} → s ≡ slot_of p p.count → {part : List ℕ} → part ≡ ws
+      → put_mid (1024 * s) (1024 * s + length ws - 1024 * s) room part ≡ added_room p ws room
   unfolding added_room
-  room_added n e = rw (e, same_slot p p.count)
+  room_added e {s} at {part} copied = rw (← e, ← at) (put_mid-paste (1024 * s) (1024 * s + length ws - 1024 * s) room part ws (length ws) copied (omega arith) refl)
 
 -- ---- reading back
 
-module _ (p : Page) (room : List ℕ) (k : ℕ) (r : Answer) (e : r ≡ finding p (length room) k) where
-  pub not_held : {n i : ℕ} → r ≡ Refused n i → [] ≡ read_back p room k
-  unfolding read_back
-  not_held h = rw (← e, h)
-
-  pub is_held : {n : ℕ} → r ≡ Accepted n → event_at p room k ≡ read_back p room k
-  unfolding read_back
-  is_held h = rw (← e, h)
-
-  pub held_inside : {n : ℕ} → r ≡ Accepted n → (sound p (length room) ≡ true) × (k < p.count)
+module _ (p : Page) (room : List ℕ) (k : ℕ) where
+  pub held_inside : {n : ℕ} → Ok n ≡ finding p (length room) k → (sound p (length room) ≡ true) × (k < p.count)
   unfolding finding
-  held_inside {n} h = go (sound p (length room)) refl (ltb k p.count) refl (sym h ∙ e)
+  held_inside {n} = go (sound p (length room)) refl (ltb k p.count) refl
     where
       go : (s : Bool) → sound p (length room) ≡ s → (b : Bool) → ltb k p.count ≡ b
-          → Accepted n ≡ cond s (cond b (Accepted (length_of p k)) (Refused 27 0)) (Refused 28 0) → (sound p (length room) ≡ true) × (k < p.count)
+          → Ok n ≡ cond s (cond b (Ok (length_of p k)) (Err (refusal 27 0))) (Err (refusal 28 0)) → (sound p (length room) ≡ true) × (k < p.count)
       go false f b g q = impossible cc
       go true f false g q = impossible cc
       go true f true g q = (f, ltb-true k p.count g)
+
+  pub is_found : {n : ℕ} → Ok n ≡ finding p (length room) k → {words : List ℕ} → words ≡ event_at p room k → IsFound p room k words
+  unfolding read_back
+  is_found e {words} h =
+      let d = held_inside e in
+      let w : words ≡ read_back p room k = rw (← e) h in
+      record { answer = (reads_back p room d.0).1 k (omega (arith, held_length p room)) ∙ ap Ok (ap length (sym w)); read = w }

@@ -7,17 +7,18 @@ use mathlib.Core.Path.{◌≡◌, refl, sym, ap, ◌∙◌}
 use mathlib.Core.Bool.{Bool, true, false, cond}
 use mathlib.Core.List.{List}
 use lib.ListN.{length, drop, length-take}
-use Rattle.event.specs.declared.Answer.{Answer}
-use Rattle.event.specs.declared.Answer.TheVariants.{Accepted, Refused}
+use Rattle.std.specs.Prelude.{Ok, Err}
+use Rattle.event.specs.Refusal.{refusal}
 use Rattle.event.specs.Parser.{All}
 use Rattle.event.proofs.Impossible.{impossible}
 use Rattle.page_layout.specs.declared.Page.{Page}
-use Rattle.page_layout.specs.Plane.{rows_of, table, no_hits, at, counted, Shape}
+use Rattle.page_layout.specs.Plane.{Plane, rows_of, table, at, counted, Shape}
 use Rattle.page_layout.specs.Page.{length_of, place_of, event_at, held, sound, seeing, plane_in}
 use Rattle.page_layout.proofs.Tables.{table_length, table_snoc}
 use Rattle.page_layout.proofs.PlaneLaws.{plane_of_shape}
 use Rattle.page_layout.proofs.SoundPages.{sound_is}
 use Rattle.page.specs.Counting.{with_hits}
+use Rattle.page.specs.Found.{IsPlane}
 use Rattle.page.proofs.EventHits.{counted_next, counted_under}
 
 pub all_table : {A : Type 0} (P : A → Type 0) (n : ℕ) (f : ℕ → A) → ((k : ℕ) → k < n → P (f k)) → All P (table n f)
@@ -29,22 +30,17 @@ pub event_short : (p : Page) (room : List ℕ) (k : ℕ) → length_of p k ≤ 1
 event_short p room k h = omega (arith, length-take (length_of p k) (drop (place_of p k) room))
 
 module _ (p : Page) (room : List ℕ) where
-  module _ (r : Answer) (e : r ≡ seeing p (length room)) where
-    pub plane_in_none : {n k : ℕ} → r ≡ Refused n k → no_hits ≡ plane_in p room
-    unfolding plane_in
-    plane_in_none h = rw (← e, h)
+  pub sees : {n : ℕ} → Ok n ≡ seeing p (length room) → (sound p (length room) ≡ true) × (n ≡ p.count)
+  unfolding seeing
+  sees {n} = go (sound p (length room)) refl
+    where
+      go : (s : Bool) → sound p (length room) ≡ s → Ok n ≡ cond s (Ok p.count) (Err (refusal 28 0)) → (sound p (length room) ≡ true) × (n ≡ p.count)
+      go false f q = impossible cc
+      go true f q = (f, cc)
 
-    pub plane_in_all : {n : ℕ} → r ≡ Accepted n → counted (held p room) ≡ plane_in p room
-    unfolding plane_in
-    plane_in_all h = rw (← e, h)
-
-    pub sees : {n : ℕ} → r ≡ Accepted n → (sound p (length room) ≡ true) × (n ≡ p.count)
-    unfolding seeing
-    sees {n} h = go (sound p (length room)) refl (sym h ∙ e)
-      where
-        go : (s : Bool) → sound p (length room) ≡ s → Accepted n ≡ cond s (Accepted p.count) (Refused 28 0) → (sound p (length room) ≡ true) × (n ≡ p.count)
-        go false f q = impossible cc
-        go true f q = (f, cc)
+  pub is_plane : {n : ℕ} → Ok n ≡ seeing p (length room) → {plane : Plane} → plane ≡ counted (held p room) → IsPlane p room plane
+  unfolding plane_in
+  is_plane e h = record { answer = sym e ∙ ap Ok (sees e).1; counted = rw (← e) h }
 
   -- the first k events, and one more
   abbrev pub firsts : ℕ → List (List ℕ)

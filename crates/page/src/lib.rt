@@ -1,17 +1,19 @@
-// The calls of a page of recent events (document 02, #107): the last 64 accepted events of dialect S, each of at most 1,024 words, in lent room. The page itself
-// goes by value. A refusal leaves page and room as they were.
+// The calls of a page of recent events (document 02, #107): the last 64 accepted events of dialect S, each of at most 1,024 words, in lent room. A refusal leaves
+// page and room as they were. The page and its room stay two arguments: `add` alone borrows the room to write, so that one struct of both would need a second for it.
 #![tactic(auto)]
 
 mod hits;
 mod slots;
 
-ghost use Rattle.std.specs.Prelude.{◌≡◌, length};
+ghost use Rattle.std.specs.Prelude.{◌≡◌, length, Ok};
+ghost use Rattle.std.specs.Result.{MatchResult};
 ghost use Rattle.page_layout.specs.Page.{cleared, added, added_room, dropped, finding, read_back};
+ghost use Rattle.page.specs.Found.{IsFound};
 
-use event::{Answer, refusal};
+use event::refusal::{Fault, Refusal, refuse};
 pub use hits::{counts, find_plane, plane};
-use page_layout::{Page, Update};
-use slots::{copy_into, is_sound, judge, part};
+use page_layout::Page;
+use slots::{check_sound, judge, part, slot};
 
 // The events that a page holds at most, the words of each at most, and the words that the room for them has at least.
 pub const EVENTS: usize = 64;
@@ -32,85 +34,54 @@ pub fn clear() -> Page
 }
 
 // Adds an event; where 64 are held the oldest leaves. Answers the events then held.
-pub fn add(page: Page, words: &[u16], room: &mut [u16]) -> Update
-    ensures update { result ≡ added page words.now (length room.old) }
-    ensures room { room.new ≡ added_room page words.now room.old }
+pub fn add(page: &mut Page, words: &[u16], room: &mut [u16]) -> Result<usize, Refusal>
+    ensures answer { result ≡ (added page.old words.now (length room.old)).answer }
+    ensures page { page.new ≡ (added page.old words.now (length room.old)).page }
+    ensures room { room.new ≡ added_room page.old words.now room.old }
 {
-    let answer = judge(page, words, room.len());
-    let Answer::Accepted(count) = answer else {
-        return Update { answer, page };
-    };
-    let first = page.first % EVENTS;
-    let slot = (first + page.count) % EVENTS;
-    copy_into(&mut *room, WORDS * slot, words);
-    let mut next = page;
-    next.lengths[slot] = words.len();
+    let count = judge(page, words, room.len())?;
+    let newest = slot(page, page.count);
+    let at = WORDS * newest;
+    let end = at + words.len();
+    room[at..end].copy_from_slice(words);
+    page.lengths[newest] = words.len();
     if page.count < EVENTS {
-        next.count = count;
+        page.count = count;
     } else {
-        next.first = (first + 1) % EVENTS;
+        page.first = slot(page, 1);
     }
-    Update { answer, page: next }
+    Ok(count)
 }
 
 // Drops the oldest event. Answers the events then held.
-pub fn drop_oldest(page: Page, room: &[u16]) -> Update
-    ensures { result ≡ dropped page (length room.now) }
+pub fn drop_oldest(page: &mut Page, room: &[u16]) -> Result<usize, Refusal>
+    ensures answer { result ≡ (dropped page.old (length room.now)).answer }
+    ensures page { page.new ≡ (dropped page.old (length room.now)).page }
 {
-    if !is_sound(page, room.len()) {
-        return Update {
-            answer: Answer::Refused {
-                number: refusal::PAGE,
-                place: 0,
-            },
-            page,
-        };
-    }
+    check_sound(page, room.len())?;
     if page.count == 0 {
-        return Update {
-            answer: Answer::Refused {
-                number: refusal::NO_EVENT,
-                place: 0,
-            },
-            page,
-        };
+        return refuse(Fault::NoEvent, 0);
     }
-    let count = page.count - 1;
-    let mut next = page;
-    next.first = (page.first % EVENTS + 1) % EVENTS;
-    next.count = count;
-    Update {
-        answer: Answer::Accepted(count),
-        page: next,
-    }
+    page.first = slot(page, 1);
+    page.count -= 1;
+    Ok(page.count)
 }
 
 // Whether event k, oldest first, is held: answers its words.
-pub fn find_event(page: Page, room: &[u16], k: usize) -> Answer
-    ensures { result ≡ finding page (length room.now) k }
+pub fn find_event(page: &Page, room: &[u16], k: usize) -> Result<usize, Refusal>
+    ensures { result ≡ finding page.now (length room.now) k }
 {
-    if !is_sound(page, room.len()) {
-        return Answer::Refused {
-            number: refusal::PAGE,
-            place: 0,
-        };
-    }
+    check_sound(page, room.len())?;
     if page.count <= k {
-        return Answer::Refused {
-            number: refusal::NO_EVENT,
-            place: 0,
-        };
+        return refuse(Fault::NoEvent, 0);
     }
-    let first = page.first % EVENTS;
-    Answer::Accepted(page.lengths[(first + k) % EVENTS])
+    Ok(page.lengths[slot(page, k)])
 }
 
-// The words of event k, oldest first, as part of the room; none where `find_event` refuses. (An enum cannot hold the part.)
-pub fn event<'a>(page: Page, room: &'a [u16], k: usize) -> &'a [u16]
-    ensures { result.now ≡ read_back page room.now k }
+// The words of event k, oldest first, as part of the room.
+pub fn event<'a>(page: &Page, room: &'a [u16], k: usize) -> Result<&'a [u16], Refusal>
+    ensures { MatchResult result (λ words. IsFound page.now room.now k words.now) (λ refusal. Err refusal ≡ finding page.now (length room.now) k) }
 {
-    let Answer::Accepted(_) = find_event(page, room, k) else {
-        return &room[..0];
-    };
-    part(page, room, k)
+    find_event(page, room, k)?;
+    Ok(part(page, room, k))
 }

@@ -1,8 +1,8 @@
 -- A page and an answer as numbers, and what is put into a lent buffer.
 -- Assumes nothing.
-use Rattle.std.specs.Prelude.{ℕ, ◌+◌, cond, List, [], ◌∷◌, leb, length, get_or}
-use Rattle.event.specs.declared.Answer.{Answer}
-use Rattle.event.specs.Outcome.{refusal_number, count_or_place, overlaid}
+use Rattle.std.specs.Prelude.{ℕ, ◌+◌, cond, List, [], ◌∷◌, ◌++◌, leb, length, get_or, drop}
+use Rattle.event.specs.Refusal.{Answer}
+use Rattle.event.specs.Outcome.{refusal_number, count_or_place}
 use Rattle.page_layout.specs.declared.Page.{Page}
 use Rattle.page_layout.specs.Plane.{table}
 
@@ -17,8 +17,8 @@ abbrev pub numbers_of : Page → List ℕ
 numbers_of page = page.first ∷ page.count ∷ lengths_of page
 
 -- a buffer with these at its front, where it has room for all of them; else as it is
-unfoldable pub all_put : List ℕ → List ℕ → List ℕ
-all_put items buffer = cond (leb (length items) (length buffer)) (overlaid items buffer) buffer
+unfoldable pub all_put : {A : Type 0} → List A → List A → List A
+all_put items buffer = cond (leb (length items) (length buffer)) (items ++ drop (length items) buffer) buffer
 
 abbrev pub page_put : Page → List ℕ → List ℕ
 page_put page = all_put (numbers_of page)

@@ -8,10 +8,10 @@ use mathlib.Core.List.{List, [], ◌∷◌}
 use lib.Dec.{leb, ltb, eqb}
 use lib.ListN.{length, drop, length-set, length-take, length-drop}
 use borrow.Author.Tests.{leb-true, lt-ltb, le-ltb, le-leb, eqb-true, eqb-false}
-use Rattle.event.specs.declared.Answer.{Answer}
-use Rattle.event.specs.declared.Answer.TheVariants.{Accepted, Refused}
 use Rattle.event.specs.declared.Row.{Row}
 use Rattle.event.specs.Outcome.{Outcome, done, refused, answer_of, accepted, default_order}
+use Rattle.event.proofs.Faults.{kept_between}
+use Rattle.event.proofs.Tables.{holds_below}
 use Rattle.event.proofs.Impossible.{impossible}
 use Rattle.s800_layout.specs.Reading.{reading}
 use Rattle.s800_layout.proofs.Refusals.{refusals}
@@ -24,6 +24,9 @@ use Rattle.page_layout.specs.Claims as claims
 use Rattle.page_layout.proofs.Tables.{table_ext}
 use Rattle.page_layout.proofs.SoundPages.{sound_is, is_sound_lem}
 use Rattle.page_layout.proofs.Queue.{held_length, newest_joins, newest_sound, oldest_leaves, oldest_sound}
+use Rattle.event.specs.declared.refusal.Refusal.{Refusal}
+use Rattle.event.specs.Refusal.{Answer, number, fault_of, refusal}
+use Rattle.std.specs.Prelude.{Ok, Err}
 
 -- what holds between the calls: the page is sound, and holds these events
 pub record Good (s : State) (events : List (List ℕ)) : Type 0 where
@@ -37,25 +40,25 @@ module _ (p : Page) (ws : List ℕ) (room : ℕ) (s : sound p room ≡ true) whe
   then = cond (ltb p.count 64) (p.count + 1) 64
 
   abbrev answer : Outcome Row → Bool → Answer
-  answer x b = cond (sound p room) (if_read x (cond b (Accepted then) (Refused 26 (length ws)))) (Refused 28 0)
+  answer x b = cond (sound p room) (if_read x (cond b (Ok then) (Err (refusal 26 (length ws))))) (Err (refusal 28 0))
 
-  pub to_add : taken ws ≡ true → adding p ws room ≡ Accepted then
+  pub to_add : taken ws ≡ true → adding p ws room ≡ Ok then
   unfolding adding
   to_add = go (reading default_order ws) (leb (length ws) 1024)
     where
-      go : (x : Outcome Row) (b : Bool) → accepted (answer_of x) && b ≡ true → answer x b ≡ Accepted then
+      go : (x : Outcome Row) (b : Bool) → accepted (answer_of x) && b ≡ true → answer x b ≡ Ok then
       go (done rs) true h = rw s
       go (done rs) false h = impossible cc
       go (refused n k) b h = impossible cc
 
-  pub not_added : taken ws ≡ false → (n : ℕ) × (k : ℕ) × (adding p ws room ≡ Refused n k)
+  pub not_added : taken ws ≡ false → (r : Refusal) × (adding p ws room ≡ Err r)
   unfolding adding
   not_added = go (reading default_order ws) (leb (length ws) 1024)
     where
-      go : (x : Outcome Row) (b : Bool) → accepted (answer_of x) && b ≡ false → (n : ℕ) × (k : ℕ) × (answer x b ≡ Refused n k)
+      go : (x : Outcome Row) (b : Bool) → accepted (answer_of x) && b ≡ false → (r : Refusal) × (answer x b ≡ Err r)
       go (done rs) true h = impossible cc
-      go (done rs) false h = (26, length ws, rw s)
-      go (refused n k) b h = (n, k, rw s)
+      go (done rs) false h = (refusal 26 (length ws), rw s)
+      go (refused n k) b h = (refusal n k, rw s)
 
 taken_short : (ws : List ℕ) → taken ws ≡ true → length ws ≤ 1024
 taken_short ws = go (reading default_order ws) (leb (length ws) 1024) refl
@@ -72,7 +75,7 @@ good_add s es ws g = go (taken ws) refl
     go : (b : Bool) → taken ws ≡ b → Good (called (add ws) s) (cond (taken ws) (with_last es ws) es)
     go false e =
         let n = not_added s.page ws (length s.room) g.is_sound e in
-        rw (e, n.2) (record { many = g.many; is_sound = g.is_sound; holds = g.holds })
+        rw (e, n.1) (record { many = g.many; is_sound = g.is_sound; holds = g.holds })
     go true e =
         let d = sound_is s.page (length s.room) g.is_sound in
         let short = taken_short ws e in
@@ -123,15 +126,15 @@ module _ (p : Page) (room : List ℕ) (s : sound p (length room) ≡ true) where
   unfolding read_back finding
   found k h = rw (s, lt-ltb k p.count h)
 
-  its_length : (k : ℕ) → k < p.count → finding p (length room) k ≡ Accepted (length (read_back p room k))
+  its_length : (k : ℕ) → k < p.count → finding p (length room) k ≡ Ok (length (read_back p room k))
   unfolding finding
   its_length k h =
       let d = sound_is p (length room) s in
       let t = length-take (length_of p k) (drop (place_of p k) room) in
       let n : length_of p k ≡ length (event_at p room k) = omega (arith, t, length-drop (place_of p k) room, d.roomy, d.short k h) in
-      rw (found k h) (rw (s, lt-ltb k p.count h) (ap Accepted n))
+      rw (found k h) (rw (s, lt-ltb k p.count h) (ap Ok n))
 
-  none_there : (k : ℕ) → p.count ≤ k → finding p (length room) k ≡ Refused 27 0
+  none_there : (k : ℕ) → p.count ≤ k → finding p (length room) k ≡ Err (refusal 27 0)
   unfolding finding
   none_there k h = rw (s, le-ltb k p.count h)
 
@@ -145,17 +148,24 @@ reads_back p room s =
     )
 
 -- a refusal of an event is 28, the reader's own or 26
-never_12 : (p : Page) (ws : List ℕ) (room n k : ℕ) → adding p ws room ≡ Refused n k → n ≡ 12 → ⊥
-unfolding adding
-never_12 p ws room n k = go (sound p room) (reading default_order ws) refl (leb (length ws) 1024)
+never_12 : (p : Page) (ws : List ℕ) (room : ℕ) (r : Refusal) → adding p ws room ≡ Err r → number r.fault ≡ 12 → ⊥
+unfolding adding fault_of holds_below
+never_12 p ws room r = go (sound p room) (reading default_order ws) refl (leb (length ws) 1024)
   where
+    other : {n k : ℕ} → ◌≡◌ {A = Answer} (Err (refusal n k)) (Err r) → number (fault_of n) ≡ n → (n ≡ 12 → ⊥) → number r.fault ≡ 12 → ⊥
+    other {n = n} {k = k} q e apart h =
+        let f : fault_of n ≡ r.fault = cc in
+        apart (sym e ∙ ap number f ∙ h)
+
     go : (a : Bool) (x : Outcome Row) → reading default_order ws ≡ x → (b : Bool)
-        → cond a (if_read x (cond b (Accepted (cond (ltb p.count 64) (p.count + 1) 64)) (Refused 26 (length ws)))) (Refused 28 0) ≡ Refused n k → n ≡ 12 → ⊥
-    go false x f b h q = let e : 28 ≡ n = cc in omega arith
-    go true (refused i j) f b h q = let e : i ≡ n = cc in omega (arith, (refusals default_order ws i j f).1)
-    go true (done rs) f false h q = let e : 26 ≡ n = cc in omega arith
-    go true (done rs) f true h q = impossible cc
+        → cond a (if_read x (cond b (Ok (cond (ltb p.count 64) (p.count + 1) 64)) (Err (refusal 26 (length ws))))) (Err (refusal 28 0)) ≡ Err r → number r.fault ≡ 12 → ⊥
+    go false x f b q h = other {n = 28} {k = 0} q refl (λ e. omega arith) h
+    go true (refused i j) f b q h =
+        let t = refusals default_order ws i j f in
+        other {n = i} {k = j} q (kept_between 1 11 tt i t.0 t.1) (λ e. omega (arith, t.1)) h
+    go true (done rs) f false q h = other {n = 26} {k = length ws} q refl (λ e. omega arith) h
+    go true (done rs) f true q h = impossible cc
 
 pub unchanged : Unchanged
 unfolding added added_room dropped
-unchanged p words room n k = (λ e. (rw e refl, rw e refl, never_12 p words (length room) n k e), λ e. rw e refl)
+unchanged p words room r = (λ e. (rw e refl, rw e refl, never_12 p words (length room) r e), λ e. rw e refl)

@@ -1,10 +1,11 @@
 -- What is shown of the page (document 02, #107): it is a queue, no refusal changes it, and the plane counts the hits of the events held.
 -- Assumes nothing.
-use Rattle.std.specs.Prelude.{ℕ, ◌≤◌, ◌<◌, ◌≡◌, Bool, true, cond, ◌&&◌, List, [], ◌∷◌, ◌++◌, leb, ltb, length, get_or}
+use Rattle.std.specs.Prelude.{ℕ, ◌≤◌, ◌<◌, ◌≡◌, Bool, true, cond, ◌&&◌, List, [], ◌∷◌, ◌++◌, leb, ltb, length, get_or, Ok, Err}
 use Rattle.std.proofs.Math.ListN as list
-use Rattle.event.specs.declared.Answer.TheVariants.{Accepted, Refused}
+use Rattle.event.specs.declared.refusal.Refusal.{Refusal}
 use Rattle.event.specs.declared.StampOrder.{StampOrder}
 use Rattle.event.specs.Parser.{each}
+use Rattle.event.specs.Refusal.{number, refusal}
 use Rattle.event.specs.Outcome.{refused, answer_of, accepted, given, default_order}
 use Rattle.s800_layout.specs.Layout.{pad}
 use Rattle.s800_layout.specs.Reading.{reading}
@@ -67,15 +68,15 @@ abbrev pub ReadsBack : Type 0
 ReadsBack =
     (p : Page) (room : List ℕ) → sound p (length room) ≡ true →
     (table (length (held p room)) (read_back p room) ≡ held p room)
-    × ((k : ℕ) → k < length (held p room) → finding p (length room) k ≡ Accepted (length (read_back p room k)))
-    × ((k : ℕ) → length (held p room) ≤ k → finding p (length room) k ≡ Refused 27 0)
+    × ((k : ℕ) → k < length (held p room) → finding p (length room) k ≡ Ok (length (read_back p room k)))
+    × ((k : ℕ) → length (held p room) ≤ k → finding p (length room) k ≡ Err (refusal 27 0))
 
 -- No refusal changes page or room, and none is 12.
 abbrev pub Unchanged : Type 0
 Unchanged =
-    (p : Page) (words room : List ℕ) (n k : ℕ) →
-    (adding p words (length room) ≡ Refused n k → ((added p words (length room)).page ≡ p) × (added_room p words room ≡ room) × (n ≡ 12 → ⊥))
-    × (dropping p (length room) ≡ Refused n k → (dropped p (length room)).page ≡ p)
+    (p : Page) (words room : List ℕ) (r : Refusal) →
+    (adding p words (length room) ≡ Err r → ((added p words (length room)).page ≡ p) × (added_room p words room ≡ room) × (number r.fault ≡ 12 → ⊥))
+    × (dropping p (length room) ≡ Err r → (dropped p (length room)).page ≡ p)
 
 -- A plane has four connectors of sixty-four channels, each with the number of the pad's hits in the events.
 abbrev pub CountsHits : Type 0

@@ -1,15 +1,13 @@
 -- A page of the last 64 accepted events of dialect S, each of at most 1,024 words, in lent room (document 02, #107).
 -- Assumes nothing.
-use Rattle.std.specs.Prelude.{ℕ, ◌+◌, ◌-◌, ◌*◌, ◌%◌, Bool, true, cond, ◌&&◌, List, [], ◌∷◌, leb, ltb, eqb, length, get_or, set, take, drop, replicate}
+use Rattle.std.specs.Prelude.{ℕ, ◌+◌, ◌-◌, ◌*◌, ◌%◌, Bool, true, cond, ◌&&◌, List, [], ◌∷◌, leb, ltb, eqb, length, get_or, set, take, drop, replicate, Ok, Err}
 use Rattle.std.proofs.Math.Seq.{paste}
-use Rattle.event.specs.declared.Answer.{Answer}
-use Rattle.event.specs.declared.Answer.TheVariants.{Accepted, Refused}
 use Rattle.event.specs.declared.Row.{Row}
 use Rattle.event.specs.Outcome.{Outcome, done, refused, accepted, default_order}
 use Rattle.s800_layout.specs.Reading.{reading}
 use Rattle.page_layout.specs.declared.Page.{Page}
-use Rattle.page_layout.specs.declared.Update.{Update}
 use Rattle.page_layout.specs.Plane.{table, Plane, no_hits, counted}
+use Rattle.event.specs.Refusal.{Answer, refusal}
 
 -- the events that a page holds at most, the words of each at most, and the words that the room for them has at least
 abbrev pub most_events : ℕ
@@ -50,12 +48,12 @@ sound p room = leb room_words room && (leb p.count most_events && all_up_to most
 
 -- 28, first of all
 abbrev pub if_sound : Page → (room : ℕ) → Answer → Answer
-if_sound p room answer = cond (sound p room) answer (Refused 28 0)
+if_sound p room answer = cond (sound p room) answer (Err (refusal 28 0))
 
 -- the reader's own refusal, whatever its room: never 12
 abbrev pub if_read : Outcome Row → Answer → Answer
 if_read (done rows) answer = answer
-if_read (refused n k) answer = Refused n k
+if_read (refused n k) answer = Err (refusal n k)
 
 -- what there is behind a call: `changed` where it accepts, and what was there before where it refuses
 abbrev pub behind : {A : Type 0} → Answer → (changed before : A) → A
@@ -71,8 +69,8 @@ adding p words room =
     if_sound p room
     (if_read (reading default_order words)
     (cond (leb (length words) most_words)
-    (Accepted (cond (ltb p.count most_events) (p.count + 1) most_events))
-    (Refused 26 (length words))))
+    (Ok (cond (ltb p.count most_events) (p.count + 1) most_events))
+    (Err (refusal 26 (length words)))))
 
 -- It takes the slot behind the newest, which in a full page is that of the oldest: the oldest leaves.
 unfoldable pub with_newest : Page → (size : ℕ) → Page
@@ -82,6 +80,11 @@ with_newest p size = record {
   lengths = set p.lengths (slot_of p p.count) size;
 }
 
+-- what a call that may change a page answers, and the page behind it
+pub record Update : Type 0 where
+  pub answer : Answer
+  pub page : Page
+
 unfoldable pub added : Page → (words : List ℕ) → (room : ℕ) → Update
 added p words room = record { answer = adding p words room; page = behind (adding p words room) (with_newest p (length words)) p }
 
@@ -90,7 +93,7 @@ added_room p words room = behind (adding p words (length room)) (paste room (pla
 
 -- Drop the oldest event: 28; 27 where there is none; else the number of events then held. The room stays as it is.
 unfoldable pub dropping : Page → (room : ℕ) → Answer
-dropping p room = if_sound p room (cond (eqb p.count 0) (Refused 27 0) (Accepted (p.count - 1)))
+dropping p room = if_sound p room (cond (eqb p.count 0) (Err (refusal 27 0)) (Ok (p.count - 1)))
 
 unfoldable pub without_oldest : Page → Page
 without_oldest p = record { first = (p.first + 1) % most_events; count = p.count - 1; lengths = p.lengths }
@@ -100,7 +103,7 @@ dropped p room = record { answer = dropping p room; page = behind (dropping p ro
 
 -- Read back event k, oldest first: 28; 27 past the last; else its number of words.
 unfoldable pub finding : Page → (room : ℕ) → ℕ → Answer
-finding p room k = if_sound p room (cond (ltb k p.count) (Accepted (length_of p k)) (Refused 27 0))
+finding p room k = if_sound p room (cond (ltb k p.count) (Ok (length_of p k)) (Err (refusal 27 0)))
 
 -- its words, a part of the room; none where it is refused
 unfoldable pub read_back : Page → (room : List ℕ) → ℕ → List ℕ
@@ -108,7 +111,7 @@ read_back p room k = behind (finding p (length room) k) (event_at p room k) []
 
 -- The plane of the events held: 28; else the number of events counted.
 unfoldable pub seeing : Page → (room : ℕ) → Answer
-seeing p room = if_sound p room (Accepted p.count)
+seeing p room = if_sound p room (Ok p.count)
 
 -- it is counted afresh; nothing is counted where it is refused
 unfoldable pub plane_in : Page → (room : List ℕ) → Plane

@@ -5,7 +5,7 @@ use mathlib.Core.Bool.{true, false}
 use mathlib.Core.List.{List, ◌++◌}
 use lib.ListN.{set, take, drop, replicate}
 use Rattle.hex_line.specs.Text.{text, character, hex_of, field, texts_below}
-use Rattle.page_text.specs.Text.{sum, largest, head_text, mark, marks_text, row_text, rows_text, picture_text, pictures_text, eight_text, count_text}
+use Rattle.page_text.specs.Text.{head_text, mark, marks_text, row_text, rows_text, picture_text, pictures_text, eight_text, count_text}
 use Rattle.page_text.specs.Text.{counts_text, last_text, text_of_page}
 
 -- no counts but those that are set
@@ -89,7 +89,7 @@ few : text_of_page 5 (set (set (set (set (set zeros 0 8) 63 7) 64 1) 136 3) 255 
     ++ text "count 00000003 00000030 00000000 00000000 00000000 00000000 00000000 00000000 00000000 00000000\n"
     ++ text "count 00000003 00000038 00000000 00000000 00000000 00000000 00000000 00000000 00000000 00000004\n"
     ++ text "end added 00000005 refused 00000001 other 00000002\n"
-unfolding texts_below hex_of field character sum largest head_text mark marks_text row_text rows_text picture_text pictures_text eight_text count_text counts_text last_text text_of_page
+unfolding texts_below hex_of field character head_text mark marks_text row_text rows_text picture_text pictures_text eight_text count_text counts_text last_text text_of_page
 few = refl
 
 -- where the line of a connector, row i of its picture, its axis, and line j of the counts begin
@@ -125,7 +125,7 @@ edges : (take 49 large ≡ text "page events ffffffff hits bfffffff most fffffff
     × (take 96 (drop (counts_at 8) large) ≡ text "count 00000001 00000000 dfffffff 00000000 00000000 00000000 00000000 00000000 00000000 00000000\n")
     × (take 96 (drop (counts_at 31) large) ≡ text "count 00000003 00000038 00000000 00000000 00000000 00000000 00000000 00000000 00000000 00000001\n")
     × (drop last_at large ≡ text "cut added 00000001 refused 00000000 other abcdef01\n")
-unfolding texts_below hex_of field character sum largest head_text mark marks_text row_text rows_text picture_text pictures_text eight_text count_text counts_text last_text text_of_page
+unfolding texts_below hex_of field character head_text mark marks_text row_text rows_text picture_text pictures_text eight_text count_text counts_text last_text text_of_page
 edges = (refl, refl, refl, refl, refl, refl, refl, refl, refl, refl, refl, refl)
 
 -- A page without events: LEAST of each row is 1, and there is no mark.
@@ -139,5 +139,5 @@ nothing : (take 49 empty ≡ text "page events 00000000 hits 00000000 most 00000
     × (take 69 (drop (axis_at 3) empty) ≡ text "channel   0       8       10      18      20      28      30      38\n")
     × (take 96 (drop (counts_at 31) empty) ≡ text "count 00000003 00000038 00000000 00000000 00000000 00000000 00000000 00000000 00000000 00000000\n")
     × (drop last_at empty ≡ text "end added 00000000 refused 00000000 other 00000000\n")
-unfolding texts_below hex_of field character sum largest head_text mark marks_text row_text rows_text picture_text pictures_text eight_text count_text counts_text last_text text_of_page
+unfolding texts_below hex_of field character head_text mark marks_text row_text rows_text picture_text pictures_text eight_text count_text counts_text last_text text_of_page
 nothing = (refl, refl, refl, refl, refl, refl, refl)

@@ -1,18 +1,12 @@
 -- A page as text (document 02, #107), in the order of the print: its head, a picture of each connector, all counts, its last line. Numbers are eight
 -- lower-case hexadecimal digits. Counts stand by pad.
 -- Assumes nothing.
-use Rattle.std.specs.Prelude.{ℕ, ◌+◌, ◌-◌, ◌*◌, ◌/◌, ◌%◌, max, Bool, cond, List, [], ◌∷◌, ◌++◌, leb, get_or}
+use Rattle.std.specs.Prelude.{ℕ, ◌+◌, ◌-◌, ◌*◌, ◌/◌, ◌%◌, max, sum, fold, Bool, cond, List, ◌++◌, leb, get_or}
 use Rattle.hex_line.specs.Text.{text, hex_of, field, texts_below}
 
--- the sum of numbers
-unfoldable pub sum : List ℕ → ℕ
-sum [] = 0
-sum (n ∷ ns) = n + sum ns
-
 -- the largest of numbers; 0 of none
-unfoldable pub largest : List ℕ → ℕ
-largest [] = 0
-largest (n ∷ ns) = max n (largest ns)
+abbrev pub largest : List ℕ → ℕ
+largest = fold max 0
 
 -- `page events EVENTS hits HITS most MOST`: the events held, the sum of all counts, the largest count
 unfoldable pub head_text : (events hits most : ℕ) → List ℕ

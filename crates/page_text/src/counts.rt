@@ -1,52 +1,39 @@
-// The counts of all pads: one of them, their sum and the largest.
-ghost use Rattle.std.specs.Prelude.{◌<◌, max, ◌≡◌, length};
-ghost use Rattle.page_text.specs.Text.{count_of};
-ghost use Rattle.page_text.specs.Text as text;
+// The counts of all pads: their sum and the largest, and those of a connector.
+ghost use Rattle.std.specs.Prelude.{◌<◌, ◌≡◌, sum};
+ghost use Rattle.page_text.specs.Text.{largest, count_of};
 
-// How many pads there are.
-const PADS: usize = 256;
+use crate::Counts;
 
-// The count of a connector and a channel.
-pub(crate) fn count_of(counts: &[u32], connector: usize, channel: usize) -> u32
-    requires { (connector < 4) × (channel < 64) × (length counts.now ≡ 256) }
-    ensures { result ≡ count_of counts.now connector channel }
-{
-    counts[channel + 64 * connector]
+// The counts of a connector's channels.
+#[derive(Drop)]
+pub(crate) struct Connector<'a> {
+    pub counts: &'a Counts,
+    pub number: usize,
+    ghost in_range: { number < 4 },
+}
+
+impl Connector<'_> {
+    pub(crate) fn count(&self, channel: usize) -> u32
+        requires { channel < 64 }
+        ensures { result ≡ count_of self.now.counts.now self.now.number channel }
+    {
+        self.counts[channel + 64 * self.number]
+    }
 }
 
 // The sum of the counts: 256 numbers of 32 bits cannot wrap.
-pub(crate) fn sum(counts: &[u32]) -> u64
-    requires { length counts.now ≡ 256 }
-    ensures { result ≡ text.sum counts.now }
+pub(crate) fn total(counts: &Counts) -> u64
+    ensures { result ≡ sum counts.now }
 {
     let mut hits = 0;
-    let mut i = 0;
-    while i < PADS {
-        hits += counts[i] as u64;
-        i += 1;
+    for count in counts {
+        hits += u64::from(*count);
     }
     hits
 }
 
-// The largest of the counts.
-pub(crate) fn largest(counts: &[u32]) -> u32
-    requires { length counts.now ≡ 256 }
-    ensures { result ≡ text.largest counts.now }
+pub(crate) fn largest(counts: &Counts) -> u32
+    ensures { result ≡ largest counts.now }
 {
-    let mut most = 0;
-    let mut i = 0;
-    while i < PADS {
-        most = larger(most, counts[i]);
-        i += 1;
-    }
-    most
-}
-
-fn larger(a: u32, b: u32) -> u32
-    ensures { result ≡ max a b }
-{
-    if a < b {
-        return b;
-    }
-    a
+    counts.iter().fold(0, |most, count| most.max(*count))
 }

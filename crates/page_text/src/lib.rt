@@ -5,10 +5,10 @@ mod counts;
 mod lines;
 mod picture;
 
-ghost use Rattle.std.specs.Prelude.{◌≡◌, length};
+ghost use Rattle.std.specs.Prelude.{◌≡◌};
 ghost use Rattle.page_text.specs.Text.{text_of_page};
 
-use counts::{largest, sum};
+use counts::{largest, total};
 use lines::{put_counts, put_head, put_last};
 use picture::put_pictures;
 
@@ -29,20 +29,12 @@ pub struct Ending {
     pub other: u64,
 }
 
-// Puts the text of a page of so many events.
+// Puts the text of a page of so many events: its parts one behind another, which fill the text.
 pub fn put_page(events: u64, counts: &Counts, ending: Ending, text: &mut PageText)
     ensures { text.new ≡ text_of_page events counts.now ending.cut ending.added ending.refused ending.other }
 {
-    put_whole(events, counts, ending, text)
-}
-
-// Puts the parts of a page one behind another, which fill the text.
-fn put_whole(events: u64, counts: &[u32], ending: Ending, text: &mut [u8])
-    requires { (length counts.now ≡ 256) × (length text.old ≡ 5956) }
-    ensures { text.new ≡ text_of_page events counts.now ending.cut ending.added ending.refused ending.other }
-{
     let most = largest(counts);
-    let pictures_at = put_head(text, events, sum(counts), most);
+    let pictures_at = put_head(text, events, total(counts), most);
     let counts_at = put_pictures(text, pictures_at, counts, most);
     let last_at = put_counts(text, counts_at, counts);
     put_last(text, last_at, ending);

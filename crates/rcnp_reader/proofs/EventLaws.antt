@@ -7,12 +7,13 @@ use mathlib.Core.Bool.{Bool, true, false}
 use mathlib.Core.List.{List}
 use lib.ListN.{length, drop}
 use borrow.Author.Tests.{lt-leb, le-leb, eq-eqb, ne_eqb}
-use Rattle.event.specs.declared.Answer.{Answer}
-use Rattle.event.specs.declared.Answer.TheVariants as answer
-use Rattle.event.specs.declared.Part.TheVariants.{Done, Refused}
+use Rattle.std.specs.Prelude.{Ok, Err}
+use Rattle.event.specs.declared.Part.{Part}
+use Rattle.event.specs.declared.refusal.Refusal.{Refusal}
+use Rattle.event.specs.Refusal.{Answer, refusal}
 use Rattle.event.specs.Parser.{Result, ok, refuse, then, ◌>>=◌, ◌>>◌, give, require, finish, lastly, alone, several, each}
 use Rattle.event.specs.Words.{between}
-use Rattle.event.specs.Scanning.{reading, Scanned, PartOf}
+use Rattle.event.specs.Scanning.{reading, Scanned, RefusedAs, PartOf}
 use Rattle.event.proofs.Codes.{T_true}
 use Rattle.event.proofs.Elements.{is_between}
 use Rattle.event.proofs.Ends.{ends_many}
@@ -44,10 +45,19 @@ behind_regions gs i s = go (sum_region i s)
     go (refuse n p) = refl
 
 module _ {ws b₀ b : List ℕ} where
-  pub parts_refused : {n p : ℕ} (after : List ℕ) → PartOf (each region_rows) (several region at_sum 0 ws) ws 0 b₀ b (Refused n p) → Scanned rows (parts ws) 0 b₀ (answer.Refused n p) after
-  parts_refused after s = scanned_refuse rows 0 b₀ after (rw s.part)
+  pub parts_refused : {r : Refusal} (after : List ℕ) → PartOf (each region_rows) (several region at_sum 0 ws) ws 0 b₀ b (Err r) → Scanned rows (parts ws) 0 b₀ (Err r) after
+  parts_refused {r} after s = go s.part
+    where
+      go : RefusedAs (several region at_sum 0 ws) r → Scanned rows (parts ws) 0 b₀ (Err r) after
+      go t = rw t.named (scanned_refuse rows {n = t.number} {p = t.place} 0 b₀ after (rw t.refused))
 
-  module _ {i k : ℕ} (s : PartOf (each region_rows) (several region at_sum 0 ws) ws 0 b₀ b (Done i k)) where
+  module _ {p : Part} (s : PartOf (each region_rows) (several region at_sum 0 ws) ws 0 b₀ b (Ok p)) where
+    abbrev i : ℕ
+    i = p.next
+
+    abbrev k : ℕ
+    k = p.count
+
     pub sum_there : (i ≤ length ws) × (k ≤ i) × (at_sum (drop i ws) ≡ true)
     sum_there =
         let w = s.part in
@@ -63,10 +73,10 @@ module _ {ws b₀ b : List ℕ} where
 
 -- the number of words
 module _ (ws b after : List ℕ) where
-  pub too_few : length ws < 2 → Scanned rows (event_parser (length ws) 0 ws) 0 b (answer.Refused 1 0) after
+  pub too_few : length ws < 2 → Scanned rows (event_parser (length ws) 0 ws) 0 b (Err (refusal 1 0)) after
   too_few l = scanned_refuse rows 0 b after (rw (lt-leb 2 (length ws) l))
 
-  pub too_many : 4096 < length ws → Scanned rows (event_parser (length ws) 0 ws) 0 b (answer.Refused 1 0) after
+  pub too_many : 4096 < length ws → Scanned rows (event_parser (length ws) 0 ws) 0 b (Err (refusal 1 0)) after
   too_many l = let m : 2 ≤ length ws = omega arith in scanned_refuse rows 0 b after (rw (le-leb 2 (length ws) m, lt-leb (length ws) 4096 l))
 
 -- the sum, after all parts
@@ -74,23 +84,26 @@ module _ (ws : List ℕ) (least : 2 ≤ length ws) (most : length ws ≤ 4096) w
   in_size : event_parser (length ws) 0 ws ≡ lastly summed 13 (parts_with (finish 6)) 0 ws
   in_size = rw (is_between 2 4096 (length ws) least most)
 
-  pub event_refused : {n p : ℕ} {b after : List ℕ} → Scanned rows (parts ws) 0 b (answer.Refused n p) after → Scanned rows (event_parser (length ws) 0 ws) 0 b (answer.Refused n p) after
-  event_refused {b = b} {after = after} s = rw in_size (scanned_refuse rows 0 b after (rw (refused_scan rows (parts ws) s)))
+  pub event_refused : {r : Refusal} {b after : List ℕ} → Scanned rows (parts ws) 0 b (Err r) after → Scanned rows (event_parser (length ws) 0 ws) 0 b (Err r) after
+  event_refused {r} {b} {after} s = go (refused_scan rows (parts ws) s)
+    where
+      go : RefusedAs (parts ws) r → Scanned rows (event_parser (length ws) 0 ws) 0 b (Err r) after
+      go t = rw (in_size, t.named) (scanned_refuse rows {n = t.number} {p = t.place} 0 b after (rw t.refused))
 
-  module _ {k sum : ℕ} {b after : List ℕ} (s : Scanned rows (parts ws) 0 b (answer.Accepted k) after) (e : sum ≡ total ws) where
-    pub wrong_sum : (sum % 65536 ≡ 0 → ⊥) → Scanned rows (event_parser (length ws) 0 ws) 0 b (answer.Refused 13 (length ws - 1)) after
+  module _ {k sum : ℕ} {b after : List ℕ} (s : Scanned rows (parts ws) 0 b (Ok k) after) (e : sum ≡ total ws) where
+    pub wrong_sum : (sum % 65536 ≡ 0 → ⊥) → Scanned rows (event_parser (length ws) 0 ws) 0 b (Err (refusal 13 (length ws - 1))) after
     wrong_sum n =
         let t = accepted_scan rows (parts ws) s in
         let r = read_sum ws t.value t.place t.input t.parsed in
         let f : summed t.value ≡ false = r.0 ∙ rw (← e, ne_eqb (sum % 65536) 0 n) in
         let refused = lastly_fails {items_of = rows} summed 13 (parts_with (finish 6)) 0 ws t.value t.place t.input t.parsed f in
-        rw in_size (subst (λ (j : ℕ). Scanned rows (lastly summed 13 (parts_with (finish 6)) 0 ws) 0 b (answer.Refused 13 (j - 1)) after) r.1 refused)
+        rw in_size (subst (λ (j : ℕ). Scanned rows (lastly summed 13 (parts_with (finish 6)) 0 ws) 0 b (Err (refusal 13 (j - 1))) after) r.1 refused)
 
-    pub event_read : sum % 65536 ≡ 0 → Scanned rows (event_parser (length ws) 0 ws) 0 b (answer.Accepted k) after
+    pub event_read : sum % 65536 ≡ 0 → Scanned rows (event_parser (length ws) 0 ws) 0 b (Ok k) after
     event_read z = rw in_size (lastly_holds summed 13 (parts_with (finish 6)) 0 ws s (λ a j r p. (read_sum ws a j r p).0 ∙ rw (← e, eq-eqb (sum % 65536) 0 z)))
 
 -- of an event that the check accepted the parts are the event
-pub filled_parts : (ws : List ℕ) {k : ℕ} {b after b' after' : List ℕ} {r : Answer} → Scanned rows (event_parser (length ws) 0 ws) 0 b (answer.Accepted k) after
+pub filled_parts : (ws : List ℕ) {k : ℕ} {b after b' after' : List ℕ} {r : Answer} → Scanned rows (event_parser (length ws) 0 ws) 0 b (Ok k) after
     → Scanned rows (parts ws) 0 b' r after' → Scanned rows (event_parser (length ws) 0 ws) 0 b' r after'
 filled_parts ws {b' = b'} {after' = after'} {r = r} s t =
     let a = accepted_scan rows (event_parser (length ws) 0 ws) s in

@@ -10,7 +10,7 @@ use mathlib.Core.List.{List, ◌∷◌}
 use lib.Dec.{T, eqb, leb}
 use lib.ListN.{length, get_or, drop, drop_of_length-le}
 use lib.Seq.{drop-cons, slice}
-use borrow.Author.Tests.{leb-true, leb-false, eq-eqb, ne_eqb, eqb-true, eqb-false, lt-ltb, not-true, not-false}
+use borrow.Author.Tests.{leb-true, leb-false, eq-eqb, ne_eqb, lt-ltb, not-true, not-false}
 use Rattle.event.specs.Parser.{Result, Parser, refuse, require, filled, ◌>>◌}
 use Rattle.event.proofs.Codes.{true_T, T_true}
 use Rattle.event.proofs.Impossible.{impossible}
@@ -67,49 +67,41 @@ module _ (ws : List ℕ) (i : ℕ) (below : i < length ws) where
     known : here ≡ filling i size (allowed_size f size) (region_content f) (i + 1) (slice (i + 1) (length ws) ws)
     known = rw (there, e, eq-eqb (get_or ws i 0) (header_word (id_of f) size) (omega arith), lt-ltb size (2 ^ 12) (omega arith), add-one i)
 
-  -- as the code tests it: w is the header's word, `form` and `fit` are what the tests answered
-  module _ {w : ℕ} (d : w ≡ get_or ws i 0) (form : Bool) (e : form ≡ eqb (w / 2 ^ 12) (id_of (form_of (w / 2 ^ 12)))) where
-    pub refused_6 : not form ≡ true → here ≡ refuse 6 i
-    refused_6 t = no_form (eqb-false id (id_of (form_of id)) (rw d at (sym e ∙ not-true form t)))
+  -- as the code finds it: w is the header's word
+  module _ {w : ℕ} (d : w ≡ get_or ws i 0) where
+    pub refused_6 : ((f : Form) → w / 2 ^ 12 ≡ id_of f → ⊥) → here ≡ refuse 6 i
+    refused_6 none = no_form (rw d at (none (form_of (w / 2 ^ 12))))
 
-    module _ (t : not form ≡ false) where
-      found : id ≡ id_of (form_of id)
-      found = eqb-true id (id_of (form_of id)) (rw d at (sym e ∙ not-false form t))
+    module _ (f : Form) (e : w / 2 ^ 12 ≡ id_of f) where
+      there_known : here ≡ filling i size (allowed_size f size) (region_content f) (i + 1) (slice (i + 1) (length ws) ws)
+      there_known = let g : id ≡ id_of f = rw d at e in known f (ap form_of g ∙ form_back f) g
 
       pub refused_5 : length ws - i ≤ w % 2 ^ 12 → here ≡ refuse 5 i
-      refused_5 l = let f = form_of id in known f refl found ∙ filling_short ws i size (allowed_size f size) (region_content f) below (omega arith)
+      refused_5 l = there_known ∙ filling_short ws i size (allowed_size f size) (region_content f) below (omega arith)
 
-      module _ (l : w % 2 ^ 12 < length ws - i) (fit : Bool) (a : fit ≡ allowed_size (form_of (w / 2 ^ 12)) (w % 2 ^ 12)) where
+      module _ (l : w % 2 ^ 12 < length ws - i) {fit : Bool} (a : fit ≡ allowed_size f (w % 2 ^ 12)) where
         pub refused_7 : not fit ≡ true → here ≡ refuse 7 i
         refused_7 n =
-            let f = form_of id in
             let no : allowed_size f size ≡ false = rw d at (sym a ∙ not-true fit n) in
-            known f refl found ∙ filling_fits ws i size (allowed_size f size) (region_content f) (omega arith) ∙ rw no
+            there_known ∙ filling_fits ws i size (allowed_size f size) (region_content f) (omega arith) ∙ rw no
 
-        pub good_header : not fit ≡ false → Headed ws i (w / 2 ^ 12) (w % 2 ^ 12)
-        good_header y = record {
-          in_bits = rw d (refl, refl);
-          known = rw d found;
-          inside = omega arith;
-          allowed = true_T (allowed_size (form_of (w / 2 ^ 12)) (w % 2 ^ 12)) (sym a ∙ not-false fit y);
-        }
+        pub good_header : not fit ≡ false → Headed ws i f (w % 2 ^ 12)
+        good_header y = record { in_bits = rw d (rw d at e, refl); inside = omega arith; allowed = true_T (allowed_size f (w % 2 ^ 12)) (sym a ∙ not-false fit y) }
 
--- the same by its form
+-- a good header, by where its region ends
 pub record OfForm (ws : List ℕ) (i : ℕ) (f : Form) (end : ℕ) : Type 0 where
   pub header : get_or ws i 0 / 2 ^ 12 ≡ id_of f
   pub extent : end ≡ i + 1 + get_or ws i 0 % 2 ^ 12
   pub inside : end ≤ length ws
   pub allowed : T (allowed_size f (get_or ws i 0 % 2 ^ 12))
 
-pub of_form : {ws : List ℕ} {i id size : ℕ} → Headed ws i id size → (f : Form) → id ≡ id_of f → OfForm ws i f (i + 1 + size)
-of_form {ws} {i} {id} {size} h f e =
-    let same : form_of id ≡ f = ap form_of e ∙ form_back f in
-    record {
-      header = h.in_bits.0 ∙ e;
-      extent = omega (arith, h.in_bits.1);
-      inside = h.inside;
-      allowed = subst (λ (n : ℕ). T (allowed_size f n)) (sym h.in_bits.1) (subst (λ (x : Form). T (allowed_size x size)) same h.allowed);
-    }
+pub of_form : {ws : List ℕ} {i size : ℕ} {f : Form} → Headed ws i f size → OfForm ws i f (i + 1 + size)
+of_form {f = f} h = record {
+  header = h.in_bits.0;
+  extent = omega (arith, h.in_bits.1);
+  inside = h.inside;
+  allowed = subst (λ (n : ℕ). T (allowed_size f n)) (sym h.in_bits.1) h.allowed;
+}
 
 -- a region is what its words give
 pub of_content : {ws : List ℕ} {i : ℕ} {f : Form} {end : ℕ} → OfForm ws i f end → region i (drop i ws) ≡ filled (drop end ws) (region_content f (i + 1) (slice (i + 1) end ws))

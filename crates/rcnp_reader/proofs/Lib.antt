@@ -5,3 +5,4 @@ pub mod RegionLaws
 pub mod SumRegion
 pub mod RegionLoop
 pub mod EventLaws
+mod Sum

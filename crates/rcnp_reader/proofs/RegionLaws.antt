@@ -7,23 +7,30 @@ use mathlib.Core.List.{List, [], ◌∷◌, ◌++◌, map, map-map, append-nil}
 use lib.Dec.{lt→ltb, eqb→eq}
 use lib.ListN.{length, get_or, drop, take, length-map}
 use lib.Seq.{slice, slice_empty, length-slice}
-use Rattle.event.specs.declared.Answer.{Answer}
-use Rattle.event.specs.declared.Answer.TheVariants as answer
+use Rattle.std.specs.Prelude.{Ok, Err}
+use Rattle.event.specs.declared.refusal.Refusal.{Refusal}
+use Rattle.event.specs.declared.Part.{Part}
+use Rattle.event.specs.Refusal.{part}
 use Rattle.event.specs.Parser.{Result, ok, refuse, ended, alone, Passed, All}
 use Rattle.event.specs.Rows.{store_row}
 use Rattle.event.specs.Scanning.{store_rows, Scanned, Whole}
 use Rattle.event.proofs.Ends.{ends_many}
 use Rattle.event.proofs.Impossible.{impossible}
+use Rattle.event.proofs.Leads.{refused_scan}
 use Rattle.event.proofs.Loops.{at_end}
 use Rattle.event.proofs.Turns.{at_word}
-use Rattle.rcnp_layout.specs.Event.{Form, input_register, scaler, vdc, opaque, Content, id_of, form_of}
+use Rattle.rcnp_layout.specs.Event.{Form, input_register, scaler, vdc, opaque, Content, id_of}
 use Rattle.rcnp_layout.specs.Layout.{content_words, word_row, vdc_row, content_rows, region_row, region_rows, word_checks, ValidContent}
 use Rattle.rcnp_layout.specs.Reading.{scaler_value, vdc_of, content, region}
 use Rattle.rcnp_layout.proofs.RowCount.{in_content}
 use Rattle.rcnp_layout.proofs.Words.{codes_content}
+use Rattle.rcnp_format.specs.Form.{form}
+use Rattle.rcnp_format.specs.declared.Form as code
+use Rattle.rcnp_format.specs.declared.Form.TheVariants as is
+use Rattle.rcnp_reader.specs.declared.Opened.{Opened}
 use Rattle.rcnp_reader.specs.declared.Opened.TheVariants as opened
 use Rattle.rcnp_reader.specs.declared.Opened.TheVariants.{Chamber}
-use Rattle.rcnp_reader.specs.Regions.{vdc_word_row, Headed, Opens, read_to}
+use Rattle.rcnp_reader.specs.Regions.{vdc_word_row, Headed, Opens}
 use Rattle.rcnp_reader.proofs.Headers.{OfForm, of_form, of_content}
 
 module _ {ws : List ℕ} {i : ℕ} {f : Form} {end : ℕ} (h : OfForm ws i f end) where
@@ -83,7 +90,7 @@ record WordsRead (ws : List ℕ) (first end : ℕ) (f : Form) : Type 0 where
   parsed : content f first (slice first end ws) ≡ ok value end []
   rows : content_rows f value ≡ map word_row (slice first end ws)
 
-words_content : (ws : List ℕ) (i end : ℕ) → ((j : ℕ) → get_or ws j 0 < 2 ^ 16) → (f : Form) → OfForm ws i f end → (id_of f ≡ 7 → ⊥) → (id_of f ≡ 6 → ⊥) → WordsRead ws (i + 1) end f
+words_content : (ws : List ℕ) (i end : ℕ) → ((j : ℕ) → get_or ws j 0 < 2 ^ 16) → (f : Form) → OfForm ws i f end → (f ≡ vdc → ⊥) → (f ≡ scaler → ⊥) → WordsRead ws (i + 1) end f
 words_content ws i end fits input_register h u v =
     let size = eqb→eq (get_or ws i 0 % 2 ^ 12) 1 h.allowed in
     let last : suc (i + 1) ≡ end = omega (arith, h.extent) in
@@ -102,73 +109,93 @@ words_content ws i end fits (opaque k) h u v = record {
 }
 
 -- the header at i is good, and the region's own row is stored
-pub record RowStored (ws : List ℕ) (i k id size : ℕ) (b b₁ : List ℕ) : Type 0 where
-  pub headed : Headed ws i id size
+pub record RowStored (ws : List ℕ) (i k : ℕ) (f : Form) (size : ℕ) (b b₁ : List ℕ) : Type 0 where
+  pub headed : Headed ws i f size
   pub few : k ≤ i
-  pub own : b₁ ≡ store_row b k (region_row id size)
+  pub own : b₁ ≡ store_row b k (region_row (id_of f) size)
 
-module _ {ws : List ℕ} {i k id size : ℕ} {b b₁ : List ℕ} (h : RowStored ws i k id size b b₁) where
-  module _ (f : Form) (e : id ≡ id_of f) where
-    form_here : OfForm ws i f (i + 1 + size)
-    form_here = of_form h.headed f e
+module _ {ws : List ℕ} {i k size : ℕ} {f : Form} {b b₁ : List ℕ} (h : RowStored ws i k f size b b₁) where
+  form_here : OfForm ws i f (i + 1 + size)
+  form_here = of_form h.headed
 
-    form_row : b₁ ≡ store_row b k (region_row (id_of f) (get_or ws i 0 % 2 ^ 12))
-    form_row = h.own ∙ rw (e, h.headed.in_bits.1)
+  form_row : b₁ ≡ store_row b k (region_row (id_of f) (get_or ws i 0 % 2 ^ 12))
+  form_row = h.own ∙ rw h.headed.in_bits.1
 
-  -- a VDC region, whose words are judged
-  pub opens_chamber : id ≡ 7 → Opens ws i k b b₁ (Chamber (i + 1 + size))
-  opens_chamber e =
-      let z : i + 1 + size - (i + 1) ≡ size = omega arith in
-      record { opened = (rw (z, ← e) h.headed, omega arith, rw (z, ← e) h.own) }
-
-  pub opens_words : {b₂ : List ℕ} → ((j : ℕ) → get_or ws j 0 < 2 ^ 16) → (id ≡ 7 → ⊥) → (id ≡ 6 → ⊥) → b₂ ≡ store_rows b₁ (k + 1) (map word_row (slice (i + 1) (i + 1 + size) ws))
-      → Opens ws i k b b₂ (opened.Whole (i + 1 + size) (k + 1 + (i + 1 + size - (i + 1))))
+  pub opens_words : {b₂ : List ℕ} → ((j : ℕ) → get_or ws j 0 < 2 ^ 16) → (f ≡ vdc → ⊥) → (f ≡ scaler → ⊥) → b₂ ≡ store_rows b₁ (k + 1) (map word_row (slice (i + 1) (i + 1 + size) ws))
+      → Opens ws i k b b₂ (Ok (opened.Whole (part (i + 1 + size) (k + 1 + (i + 1 + size - (i + 1))))))
   opens_words fits u v s =
-      let f = form_of id in
-      let g = h.headed.known in
       let l = slice (i + 1) (i + 1 + size) ws in
-      let w = words_content ws i (i + 1 + size) fits f (form_here f g) (λ z. u (g ∙ z)) (λ z. v (g ∙ z)) in
+      let w = words_content ws i (i + 1 + size) fits f form_here u v in
       record {
-        opened = content_read (form_here f g) w.value w.parsed h.few (form_row f g) (s ∙ ap (store_rows b₁ (k + 1)) (sym w.rows))
+        opened = content_read form_here w.value w.parsed h.few form_row (s ∙ ap (store_rows b₁ (k + 1)) (sym w.rows))
             (omega (arith, ap length w.rows, length-map l word_row, length-slice (i + 1) (i + 1 + size) ws h.headed.inside));
       }
 
-  pub scalers_fit : id ≡ 6 → (size % 2 ≡ 0) × (size < 4096)
-  scalers_fit e =
-      let even = eqb→eq (get_or ws i 0 % 2 ^ 12 % 2) 0 (form_here scaler e).allowed in
-      let n = h.headed.in_bits.1 in
-      (rw (← n) even, omega arith)
+-- the other forms, by the code's
+pub not_vdc : (f : code.Form) → (f ≡ is.Vdc → ⊥) → form f ≡ vdc → ⊥
+not_vdc is.Vdc h e = h refl
+not_vdc is.InputRegister h e = impossible cc
+not_vdc is.Adc h e = impossible cc
+not_vdc is.Tdc h e = impossible cc
+not_vdc is.Scaler h e = impossible cc
+not_vdc is.Pcos h e = impossible cc
+not_vdc is.AdcLas h e = impossible cc
+not_vdc is.TdcLas h e = impossible cc
+not_vdc is.Fera h e = impossible cc
+not_vdc is.Feret h e = impossible cc
 
-  pub opens_scalers : {r : Answer} {b₂ : List ℕ} → id ≡ 6
-      → Scanned (content_rows scaler) (content scaler (i + 1) (slice (i + 1) (i + 1 + size) ws)) (k + 1) b₁ r b₂ → Opens ws i k b b₂ (read_to (i + 1 + size) r)
-  opens_scalers {r} {b₂} e s = go r (content scaler (i + 1) (slice (i + 1) end ws)) refl s
-    where
-      end : ℕ
-      end = i + 1 + size
+pub not_scaler : (f : code.Form) → (f ≡ is.Scaler → ⊥) → form f ≡ scaler → ⊥
+not_scaler is.Scaler h e = h refl
+not_scaler is.InputRegister h e = impossible cc
+not_scaler is.Adc h e = impossible cc
+not_scaler is.Tdc h e = impossible cc
+not_scaler is.Vdc h e = impossible cc
+not_scaler is.Pcos h e = impossible cc
+not_scaler is.AdcLas h e = impossible cc
+not_scaler is.TdcLas h e = impossible cc
+not_scaler is.Fera h e = impossible cc
+not_scaler is.Feret h e = impossible cc
 
-      here : OfForm ws i scaler end
-      here = form_here scaler e
+-- scalers
+module _ {ws : List ℕ} {i k size : ℕ} {b b₁ : List ℕ} (h : RowStored ws i k scaler size b b₁) where
+  abbrev end : ℕ
+  end = i + 1 + size
 
-      go : (r : Answer) (x : Result ℕ (List ℕ)) → content scaler (i + 1) (slice (i + 1) end ws) ≡ x → Scanned (content_rows scaler) x (k + 1) b₁ r b₂ → Opens ws i k b b₂ (read_to end r)
-      go (answer.Refused n p) (refuse m q) d t =
-          let a = t.answered in
-          let same : ◌≡◌ {A = Result ℕ (List ℕ)} (refuse m q) (refuse n p) = cc in
-          record { opened = content_refused here (d ∙ same) }
-      go (answer.Refused n p) (ok vs j l) d t = let a = t.answered in impossible cc
-      go (answer.Accepted count) (refuse m q) d t = let a = t.answered in impossible cc
-      go (answer.Accepted count) (ok vs j l) d t =
-          let a = t.answered in
-          let n : count ≡ k + 1 + length (content_rows scaler vs) = cc in
-          let read = at_end (codes_content scaler) (ends_many ended (λ u. scaler_value) alone tt) (i + 1) end ws (omega arith) here.inside vs j l d in
-          record { opened = content_read here vs read h.few (form_row scaler e) t.stored n }
+  here : OfForm ws i scaler end
+  here = form_here h
+
+  module _ {b₂ : List ℕ} where
+    pub scalers_refused : {r : Refusal} → Scanned (content_rows scaler) (content scaler (i + 1) (slice (i + 1) end ws)) (k + 1) b₁ (Err r) b₂ → Opens ws i k b b₂ (Err r)
+    scalers_refused s =
+        let t = refused_scan (content_rows scaler) (content scaler (i + 1) (slice (i + 1) end ws)) s in
+        record { opened = record { number = t.number; place = t.place; refused = content_refused here t.refused; named = t.named } }
+
+    pub opens_scalers : {count : ℕ} → Scanned (content_rows scaler) (content scaler (i + 1) (slice (i + 1) end ws)) (k + 1) b₁ (Ok count) b₂ → Opens ws i k b b₂ (Ok (opened.Whole (part end count)))
+    opens_scalers {count} s = go (content scaler (i + 1) (slice (i + 1) end ws)) refl s
+      where
+        go : (x : Result ℕ (List ℕ)) → content scaler (i + 1) (slice (i + 1) end ws) ≡ x → Scanned (content_rows scaler) x (k + 1) b₁ (Ok count) b₂ → Opens ws i k b b₂ (Ok (opened.Whole (part end count)))
+        go (refuse m q) d t = let a = t.answered in impossible cc
+        go (ok vs j l) d t =
+            let a = t.answered in
+            let n : count ≡ k + 1 + length (content_rows scaler vs) = cc in
+            let read = at_end (codes_content scaler) (ends_many ended (λ u. scaler_value) alone tt) (i + 1) end ws (omega arith) here.inside vs j l d in
+            record { opened = content_read here vs read h.few (form_row h) t.stored n }
+
+-- what a region was opened as
+module _ {ws : List ℕ} {i k : ℕ} {b b₁ : List ℕ} {o : Opened} (s : Opens ws i k b b₁ (Ok o)) where
+  pub opened_whole : {p : Part} → o ≡ opened.Whole p → Whole region_rows (region i (drop i ws)) ws k b b₁ p.next p.count
+  opened_whole e = (rw e at s).opened
+
+  pub opened_chamber : {end : ℕ} → o ≡ Chamber end → Opens ws i k b b₁ (Ok (Chamber end))
+  opened_chamber e = rw e at s
 
 -- a VDC region, by its words
-module _ {ws : List ℕ} {i k end : ℕ} {b b₁ : List ℕ} (o : Opens ws i k b b₁ (Chamber end)) where
+module _ {ws : List ℕ} {i k end : ℕ} {b b₁ : List ℕ} (o : Opens ws i k b b₁ (Ok (Chamber end))) where
   pub chamber_inside : (i + 1 ≤ end) × (end ≤ length ws)
   chamber_inside = omega (arith, o.opened.0.inside, o.opened.1)
 
   chamber_form : OfForm ws i vdc end
-  chamber_form = let z : i + 1 + (end - (i + 1)) ≡ end = omega (arith, o.opened.1) in rw z at (of_form o.opened.0 vdc refl)
+  chamber_form = let z : i + 1 + (end - (i + 1)) ≡ end = omega (arith, o.opened.1) in rw z at (of_form o.opened.0)
 
   pub chamber_refused : {n p : ℕ} → content vdc (i + 1) (slice (i + 1) end ws) ≡ refuse n p → region i (drop i ws) ≡ refuse n p
   chamber_refused e = content_refused chamber_form e

@@ -7,15 +7,16 @@ use mathlib.Core.Path.{◌≡◌, refl, ap, sym, ◌∙◌}
 use mathlib.Core.Bool.{true, false}
 use mathlib.Core.List.{List, [], ◌∷◌, ◌++◌, append-nil}
 use lib.ListN.{length, drop, length-append}
-use Rattle.event.specs.declared.Part.TheVariants.{Done, Refused}
-use Rattle.event.specs.Parser.{refuse, alone, several, each}
+use Rattle.std.specs.Prelude.{Ok, Err}
+use Rattle.event.specs.declared.refusal.Refusal.{Refusal}
+use Rattle.event.specs.Refusal.{part}
+use Rattle.event.specs.Parser.{alone, several, each}
 use Rattle.event.specs.Rows.{store_row}
-use Rattle.event.specs.Scanning.{store_rows, Whole, PartOf}
+use Rattle.event.specs.Scanning.{store_rows, Whole, RefusedAs, PartOf}
 use Rattle.event.proofs.Elements.{each_append}
 use Rattle.event.proofs.Ends.{placed}
 use Rattle.event.proofs.ItemsTaken.{TakenTo, none_taken, all_taken, item_refuses, one_taken}
 use Rattle.event.proofs.Leads.{store_append}
-use Rattle.event.proofs.RowStores.{length_rows}
 use Rattle.rcnp_layout.specs.Event.{Region}
 use Rattle.rcnp_layout.specs.Layout.{region_rows}
 use Rattle.rcnp_layout.specs.Reading.{region, at_sum}
@@ -34,10 +35,7 @@ pub regions_begin : {ws b : List ℕ} → RegionsTo ws b 0 0 b
 regions_begin {ws} = record { list = []; taken = none_taken (λ u. region) alone at_sum tt 0 ws; inside = omega arith; few = omega arith; counted = refl; stored = refl }
 
 module _ {ws b₀ : List ℕ} {i k : ℕ} {b : List ℕ} (h : RegionsTo ws b₀ i k b) where
-  pub regions_same : length b ≡ length b₀
-  regions_same = ap length h.stored ∙ length_rows (each region_rows h.list) b₀ 0
-
-  pub regions_done : true ≡ at_sum (drop i ws) → PartOf (each region_rows) (several region at_sum 0 ws) ws 0 b₀ b (Done i k)
+  pub regions_done : true ≡ at_sum (drop i ws) → PartOf (each region_rows) (several region at_sum 0 ws) ws 0 b₀ b (Ok (part i k))
   regions_done e = record {
     part = record {
       value = h.list;
@@ -50,8 +48,10 @@ module _ {ws b₀ : List ℕ} {i k : ℕ} {b : List ℕ} (h : RegionsTo ws b₀ 
   }
 
   module _ (more : false ≡ at_sum (drop i ws)) where
-    pub region_refused : {n p : ℕ} (after : List ℕ) → region i (drop i ws) ≡ refuse n p → PartOf (each region_rows) (several region at_sum 0 ws) ws 0 b₀ after (Refused n p)
-    region_refused after e = record { part = item_refuses h.taken (λ u. codes_region) (λ u. on) refl (sym more) e }
+    pub region_refused : {r : Refusal} (after : List ℕ) → RefusedAs (region i (drop i ws)) r → PartOf (each region_rows) (several region at_sum 0 ws) ws 0 b₀ after (Err r)
+    region_refused after t = record {
+      part = record { number = t.number; place = t.place; refused = item_refuses h.taken (λ u. codes_region) (λ u. on) refl (sym more) t.refused; named = t.named };
+    }
 
     module _ {j k' : ℕ} {b' : List ℕ} (w : Whole region_rows (region i (drop i ws)) ws k b b' j k') where
       pub region_longer : i < j

@@ -9,7 +9,8 @@ use mathlib.Core.List.{List, [], ◌∷◌, ◌++◌}
 use lib.ListN.{length, get_or, length-append}
 use lib.Seq.{slice, slice_empty}
 use borrow.Author.Tests.{eq-eqb, lt-ltb, le-ltb}
-use Rattle.event.specs.declared.Answer.TheVariants.{Accepted, Refused}
+use Rattle.std.specs.Prelude.{Ok, Err}
+use Rattle.event.specs.Refusal.{refusal}
 use Rattle.event.specs.declared.Row.{Row}
 use Rattle.event.specs.Parser.{ok, refuse, ended, alone, prints}
 use Rattle.event.specs.Rows.{store_row}
@@ -64,11 +65,11 @@ module _ {ws : List ℕ} {end first k : ℕ} {b₀ : List ℕ} where
     pub scalers_same : length b ≡ length b₀
     scalers_same = ap length h.stored ∙ length_rows (content_rows scaler h.values) b₀ k
 
-    pub scalers_read : first + 2 * index ≡ end → Scanned (content_rows scaler) (content scaler first (slice first end ws)) k b₀ (Accepted (k + index)) b
+    pub scalers_read : first + 2 * index ≡ end → Scanned (content_rows scaler) (content scaler first (slice first end ws)) k b₀ (Ok (k + index)) b
     scalers_read e =
         let all = all_taken h.taken (rw (e, slice_empty end ws)) in
         let c : k + index ≡ k + length (content_rows scaler h.values) = omega (arith, as_many h.values, h.size) in
-        rw all (record { answered = ap Accepted c; stored = h.stored })
+        rw all (record { answered = ap Ok c; stored = h.stored })
 
     module _ {v w : ℕ} (below : first + 2 * index + 1 < end) (long : end ≤ length ws) (p : v ≡ get_or ws (first + 2 * index) 0) (low : v < 2 ^ 16)
         (q : w ≡ get_or ws (first + 2 * index + 1) 0) where
@@ -78,7 +79,7 @@ module _ {ws : List ℕ} {end first k : ℕ} {b₀ : List ℕ} where
       two : slice place end ws ≡ v ∷ w ∷ slice (place + 2) end ws
       two = at_two ws place end below long p q
 
-      pub scaler_refused : (after : List ℕ) → 2 ^ 8 ≤ w → Scanned (content_rows scaler) (content scaler first (slice first end ws)) k b₀ (Refused 10 (place + 1)) after
+      pub scaler_refused : (after : List ℕ) → 2 ^ 8 ≤ w → Scanned (content_rows scaler) (content scaler first (slice first end ws)) k b₀ (Err (refusal 10 (place + 1))) after
       scaler_refused after f =
           let read : scaler_value place (slice place end ws) ≡ refuse 10 (place + 1) = rw two (scaler_high place v w (slice (place + 2) end ws) low f) in
           scanned_refuse (content_rows scaler) k b₀ after (item_refuses h.taken (λ u. codes_scaler) (λ u v g r. refl) refl (rw two) read)

@@ -10,7 +10,7 @@ use lib.Dec.{eqb}
 use lib.ListN.{length, get_or, drop, drop_of_length-le}
 use lib.Seq.{slice, slice_empty, drop-cons}
 use borrow.Author.Tests.{eq-eqb, ne_eqb, eqb-true, lt-ltb}
-use Rattle.event.specs.declared.Answer.TheVariants.{Accepted}
+use Rattle.std.specs.Prelude.{Ok}
 use Rattle.event.specs.Parser.{ok, refuse}
 use Rattle.event.specs.Rows.{store_row}
 use Rattle.event.specs.Scanning.{Scanned}
@@ -53,5 +53,5 @@ module _ (ws : List ℕ) (i : ℕ) (at : at_sum (drop i ws) ≡ true) (below : i
       more_words m = rw (read, drop-cons ws (i + 2) 0 (omega arith))
 
       pub sum_read : {k v : ℕ} {b b₁ b₂ : List ℕ} → length ws - i ≤ 2 → b₁ ≡ store_row b k (region_row sum_id 1) → v ≡ get_or ws (i + 1) 0 → b₂ ≡ store_row b₁ (k + 1) (word_row v)
-          → Scanned sum_rows (last_parts i (drop i ws)) k b (Accepted (k + 2)) b₂
+          → Scanned sum_rows (last_parts i (drop i ws)) k b (Ok (k + 2)) b₂
       sum_read m p q r = let end : length ws ≤ i + 2 = omega arith in rw (read, drop_of_length-le ws end) (record { answered = refl; stored = r ∙ rw (p, q) })

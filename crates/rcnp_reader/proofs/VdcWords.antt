@@ -6,20 +6,19 @@ use native.Mathlib.Omega.{arith}
 use mathlib.Core.Path.{◌≡◌, refl, ◌∙◌}
 use mathlib.Core.Bool.{Bool, true, false, cond, ◌&&◌}
 use mathlib.Core.List.{List, [], ◌∷◌, ◌++◌, map, map-append}
-use lib.Dec.{eqb, ltb, leb}
+use lib.Dec.{eqb, ltb}
 use lib.ListN.{length, get_or}
 use lib.Seq.{slice, slice_empty}
 use borrow.Author.Tests.{eq-eqb, ne_eqb, lt-ltb, ltb-true, ltb-false, le-leb, lt-leb}
 use Rattle.event.specs.Parser.{Result, ok, refuse, ended}
-use Rattle.event.specs.Rows.{row}
 use Rattle.event.proofs.ItemsTaken.{TakenTo, none_taken, all_taken, item_refuses, one_taken}
 use Rattle.event.proofs.RowStores.{slice_more}
 use Rattle.event.proofs.Turns.{at_word}
 use Rattle.rcnp_layout.specs.Event.{VdcWord, head, datum, vdc}
-use Rattle.rcnp_layout.specs.Layout.{vdc_word, vdc_fits, vdc_row, begins}
+use Rattle.rcnp_layout.specs.Layout.{vdc_word, vdc_fits, begins}
 use Rattle.rcnp_layout.specs.Reading.{vdc_of, vdc_value, content}
 use Rattle.rcnp_layout.proofs.Words.{codes_vdc}
-use Rattle.rcnp_reader.specs.Regions.{vdc_good, vdc_word_row}
+use Rattle.rcnp_reader.specs.Regions.{vdc_good}
 
 pub vdc_judged : (begun : Bool) (i w : ℕ) (r : List ℕ) → vdc_value begun i (w ∷ r) ≡ cond (vdc_good begun w) (ok (vdc_of w) (suc i) r) (refuse 10 i)
 unfolding vdc_good
@@ -29,16 +28,6 @@ vdc_judged begun i w r = go (eqb w (vdc_word (vdc_of w))) (vdc_fits begun (vdc_o
     go true true = refl
     go true false = refl
     go false b = refl
-
--- its row, field by field
-pub picked_row : (w : ℕ) {h : Bool} {k u c d : ℕ} → h ≡ leb (2 ^ 15) w → k ≡ cond h 35 36 → u ≡ cond h (w % 2 ^ 8) 0 → c ≡ cond h (w / 2 ^ 11 % 2 ^ 3) (w / 2 ^ 10)
-    → d ≡ cond h (w / 2 ^ 8 % 2 ^ 3) (w % 2 ^ 10) → row k u c d ≡ vdc_word_row w
-picked_row w e k u c d = rw (k, u, c, d, e) (go (leb (2 ^ 15) w))
-  where
-    go : (b : Bool) → row (cond b 35 36) (cond b (w % 2 ^ 8) 0) (cond b (w / 2 ^ 11 % 2 ^ 3) (w / 2 ^ 10)) (cond b (w / 2 ^ 8 % 2 ^ 3) (w % 2 ^ 10))
-        ≡ vdc_row (cond b (head (w % 2 ^ 8) (w / 2 ^ 11 % 2 ^ 3) (w / 2 ^ 8 % 2 ^ 3)) (datum (w / 2 ^ 10) (w % 2 ^ 10)))
-    go true = refl
-    go false = refl
 
 -- bit 15 clear: a datum
 module _ (w : ℕ) (low : w < 2 ^ 15) where

@@ -1,6 +1,7 @@
 // The words of a region: opaque words, scalers, the words of a VDC region. Each function takes those from `first` up to `end`, with rows from row `at` on.
-ghost use Rattle.std.specs.Prelude.{◌-◌, ◌/◌, ◌%◌, ◌≤◌, ◌<◌, ◌≡◌, map, length};
+ghost use Rattle.std.specs.Prelude.{ℕ, ◌-◌, ◌/◌, ◌%◌, ◌≤◌, ◌<◌, ◌≡◌, map, length};
 ghost use Rattle.std.proofs.Math.Seq.{slice};
+ghost use Rattle.event.specs.declared.Row.{Row};
 ghost use Rattle.event.specs.Rows.{store_row};
 ghost use Rattle.event.specs.Scanning.{store_rows, Scanned};
 ghost use Rattle.rcnp_layout.specs.Event.{scaler};
@@ -9,37 +10,72 @@ ghost use Rattle.rcnp_layout.specs.Reading.{content};
 ghost use Rattle.rcnp_reader.specs.Regions.{vdc_word_row};
 
 use crate::word::word;
+use event::Row;
+use event::kind::Kind;
+use event::refusal::{Fault, Refusal, refuse};
 use event::rows::{fitting, store_row};
 use event::words::pick;
-use event::{Answer, Row, kind, refusal};
 
-// Stores a row for each word, those that fit. Opaque words are not looked at otherwise.
-pub(crate) fn store_words(words: &[u16], first: usize, end: usize, rows: &mut [u32], at: usize)
-    requires { (first ≤ end) × (end ≤ length words.now) }
-    ensures { rows.new ≡ store_rows rows.old at (map word_row (slice first end words.now)) }
-{
-    let most = fitting(end - first, at, rows.len() / 4);
-    let mut i: usize = 0;
-    while i < most {
-        put_row(rows, at + i, word_row(word(words, first + i)));
-        i += 1;
+// What a word of a region is as a row. (A type and no closure, so that its contract can name the row.)
+pub(crate) trait WordRow {
+    ghost row_of: { ℕ → Row };
+
+    fn row(word: u32) -> Row
+        ensures { result ≡ row_of word };
+}
+
+// A word as it stands, not looked at otherwise.
+pub(crate) struct Opaque;
+
+impl WordRow for Opaque {
+    ghost row_of = { word_row };
+
+    fn row(word: u32) -> Row {
+        Row {
+            kind: Kind::RegionWord as u32,
+            unit: 0,
+            channel: 0,
+            datum: word,
+        }
     }
 }
 
-// Stores the rows of the words of a VDC region, which were judged: those that fit.
-pub(crate) fn store_chamber(words: &[u16], first: usize, end: usize, rows: &mut [u32], at: usize)
-    requires { (first ≤ end) × (end ≤ length words.now) }
-    ensures { rows.new ≡ store_rows rows.old at (map vdc_word_row (slice first end words.now)) }
-{
-    let most = fitting(end - first, at, rows.len() / 4);
-    let mut i: usize = 0;
-    while i < most {
-        put_row(rows, at + i, vdc_row(word(words, first + i)));
-        i += 1;
+// A word of the vertical drift chamber, which was judged.
+pub(crate) struct Chamber;
+
+impl WordRow for Chamber {
+    ghost row_of = { vdc_word_row };
+
+    // A module's header: module in bits 7-0, bits 13-11, bits 10-8. A datum: channel in bits 14-10, time in bits 9-0. (Each field is chosen, so that the loop over
+    // the words has no branch by their kind.)
+    fn row(word: u32) -> Row {
+        let head = 0x8000 <= word;
+        Row {
+            kind: pick(head, Kind::VdcModule as u32, Kind::VdcDatum as u32),
+            unit: pick(head, word % 256, 0),
+            channel: pick(head, word / 2048 % 8, word / 1024),
+            datum: pick(head, word / 256 % 8, word % 1024),
+        }
     }
 }
 
-// Stores a row that fits, so that a loop over rows has no test of the room.
+// Stores a row for each word, those that fit.
+pub(crate) fn store_words<W: WordRow>(
+    words: &[u16],
+    first: usize,
+    end: usize,
+    rows: &mut [u32],
+    at: usize,
+)
+    requires { (first ≤ end) × (end ≤ length words.now) }
+    ensures { rows.new ≡ store_rows rows.old at (map W.row_of (slice first end words.now)) }
+{
+    for i in 0..fitting(end - first, at, rows.len() / 4) {
+        put_row(rows, at + i, W::row(word(words, first + i)));
+    }
+}
+
+// Stores a row that fits: `event::rows::store_row` without its test of the room, which the loop would make for each word.
 fn put_row(rows: &mut [u32], at: usize, row: Row)
     requires { at < length rows.old / 4 }
     ensures { rows.new ≡ store_row rows.old at row }
@@ -51,32 +87,6 @@ fn put_row(rows: &mut [u32], at: usize, row: Row)
     rows[i + 3] = row.datum;
 }
 
-// A word as it stands.
-pub(crate) fn word_row(w: u32) -> Row
-    ensures { result ≡ word_row w }
-{
-    Row {
-        kind: kind::REGION_WORD,
-        unit: 0,
-        channel: 0,
-        datum: w,
-    }
-}
-
-// A module's header: module in bits 7-0, bits 13-11, bits 10-8. A datum: channel in bits 14-10, time in bits 9-0. (Each field is chosen, so that the loop over
-// the words has no branch by their kind.)
-fn vdc_row(w: u32) -> Row
-    ensures { result ≡ vdc_word_row w }
-{
-    let head = 0x8000 <= w;
-    Row {
-        kind: pick(head, kind::VDC_MODULE, kind::VDC_DATUM),
-        unit: pick(head, w % 256, 0),
-        channel: pick(head, w / 2048 % 8, w / 1024),
-        datum: pick(head, w / 256 % 8, w % 1024),
-    }
-}
-
 // Scalers, two words each: low 16 bits, then the upper 8 bits with zero above.
 pub(crate) fn scalers(
     words: &[u16],
@@ -84,29 +94,24 @@ pub(crate) fn scalers(
     end: usize,
     rows: &mut [u32],
     at: usize,
-) -> Answer
+) -> Result<usize, Refusal>
     requires { (first ≤ end) × (end ≤ length words.now) × ((end - first) % 2 ≡ 0) × (end - first < 4096) × (at ≤ first) }
     ensures { Scanned (content_rows scaler) (content scaler first (slice first end words.now)) at rows.old result rows.new }
 {
     let n = (end - first) / 2;
-    let mut index: usize = 0;
-    while index < n {
+    for index in 0..n {
         let place = first + 2 * index;
         let high = word(words, place + 1);
         if 0xff < high {
-            return Answer::Refused {
-                number: refusal::DATA,
-                place: place + 1,
-            };
+            return refuse(Fault::Data, place + 1);
         }
         let row = Row {
-            kind: kind::REGION_SCALER,
+            kind: Kind::RegionScaler as u32,
             unit: 0,
             channel: index as u32,
             datum: high * 0x0001_0000 + word(words, place),
         };
         store_row(rows, at + index, row);
-        index += 1;
     }
-    Answer::Accepted(at + n)
+    Ok(at + n)
 }

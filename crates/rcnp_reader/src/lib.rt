@@ -12,33 +12,26 @@ ghost use Rattle.event.specs.Rows.{flat, room};
 ghost use Rattle.rcnp_layout.specs.Reading.{reading};
 
 use crate::scan::{parts, scan};
-use event::{Answer, refusal};
+use event::Part;
+use event::refusal::{Fault, Refusal, refuse};
 
 // What a region's header leads to.
 #[derive(Drop)]
 enum Opened {
-    // The region was read: the place after it, and the number of rows up to there.
-    Whole { next: usize, count: usize },
+    // The region was read.
+    Whole(Part),
     // A VDC region, whose own row is stored; its words, which end at `end`, are not read yet.
     Chamber { end: usize },
-    Refused { number: u32, place: usize },
 }
 
 // Reads one event into rows, four elements each. A refused reading leaves every element as it was. The filling need not sum again.
-pub fn read(words: &[u16], rows: &mut [u32]) -> Answer
+pub fn read(words: &[u16], rows: &mut [u32]) -> Result<usize, Refusal>
     ensures answer { result ≡ answer_of (in_room (room (length rows.old)) (reading words.now)) }
     ensures buffer { rows.new ≡ overlaid (flat (given (in_room (room (length rows.old)) (reading words.now)))) rows.old }
 {
-    let mut none: [u32; 0] = [];
-    let checked = scan(words, &mut none);
-    let Answer::Accepted(count) = checked else {
-        return checked;
-    };
+    let count = scan(words, &mut [])?;
     if rows.len() / 4 < count {
-        return Answer::Refused {
-            number: refusal::ROOM,
-            place: count,
-        };
+        return refuse(Fault::Room, count);
     }
     parts(words, rows)
 }

@@ -37,11 +37,5 @@ pub(crate) fn sum_of(words: &[u16]) -> u32
     requires { length words.now ≤ 4096 }
     ensures { result ≡ total words.now }
 {
-    let mut sum: u32 = 0;
-    let mut i: usize = 0;
-    while i < words.len() {
-        sum += words[i] as u32;
-        i += 1;
-    }
-    sum
+    words.iter().map(|w| *w as u32).sum()
 }

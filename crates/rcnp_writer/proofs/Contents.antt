@@ -2,8 +2,10 @@
 -- Assumes nothing.
 use Rattle.std.proofs.Common.{◌≡◌, ℕ, zero, suc, ◌+◌, ◌<◌, ◌≤◌, Bool, true, false, ◌&&◌, T, eqb, ltb, List, [], get_or, drop, sym, refl, subst, arith, lt-ltb, eqb-true}
 use borrow.Author.Tests.{eqb-false}
-use Rattle.event.specs.declared.Part.{Part}
-use Rattle.event.specs.declared.Part.TheVariants.{Done, Refused}
+use Rattle.std.specs.Prelude.{Ok, Err}
+use Rattle.event.specs.declared.refusal.Refusal.{Refusal}
+use Rattle.event.specs.Refusal.{PartAnswer, part}
+use Rattle.event.proofs.Answers.{Failed}
 use Rattle.event.specs.declared.Row.{Row}
 use Rattle.event.specs.Parser.{times, each, alone}
 use Rattle.event.specs.Words.{word_alone}
@@ -27,16 +29,16 @@ abbrev pub Words : List Row → (n first k at : ℕ) → Type 0
 Words rs n first k at = CountedTo 16 (λ u. word) alone word_alone (λ u. Unit {0}) rs n tt first 1 [] k at []
 
 module _ {rs : List Row} {n first k at : ℕ} (h : Words rs n first k at) where
-  abbrev WordsIn : Part → Type 0
+  abbrev WordsIn : PartAnswer → Type 0
   WordsIn = Counts (each word_alone) (times (λ u. word) alone n tt first (drop first rs)) rs 1
 
-  pub words_done : n ≤ k → WordsIn (Done (first + k) at)
+  pub words_done : n ≤ k → WordsIn (Ok (part (first + k) at))
   words_done = counted_done 16 (λ u. of_kind 33) (λ r. r.datum) (λ u. word_row) (λ u. word_checks 22) (λ u. refl) (λ u w. (tt, tt)) h
 
   module _ (below : k < n) {r : Row} (e : r ≡ get_or rs (first + k) no_row) where
-    pub word_refused : {m : ℕ} {part : Part} → m ≡ datum_fault 33 0 65536 r → (m ≡ 0 → ⊥) → part ≡ Refused m (first + k) → WordsIn part
+    pub word_refused : {refused : Refusal} → Failed (datum_fault 33 0 65536 r) (first + k) refused → WordsIn (Err refused)
     unfolding datum_fault
-    word_refused = counted_refused 16 (λ u. of_kind 33) (λ r. r.datum) (λ u. word_row) (λ u. word_checks 22) (λ u. refl) (λ u w. (tt, tt)) h below e []
+    word_refused = counted_refused 16 (λ u. of_kind 33) (λ r. r.datum) (λ u. word_row) (λ u. word_checks 22) (λ u. refl) (λ u w. (tt, tt)) h below e [] refl
 
     pub word_next : {at' : ℕ} → 0 ≡ datum_fault 33 0 65536 r → at' ≡ at + 1 → Words rs n first (k + 1) at'
     unfolding datum_fault
@@ -48,16 +50,16 @@ abbrev pub Scalers : List Row → (n first k at : ℕ) → Type 0
 Scalers rs n first k at = CountedTo 16 scaler_at next_index scaler_words (λ index. index ≡ k) rs n 0 first 1 [] k at []
 
 module _ {rs : List Row} {n first k at : ℕ} (h : Scalers rs n first k at) where
-  abbrev ScalersIn : Part → Type 0
+  abbrev ScalersIn : PartAnswer → Type 0
   ScalersIn = Counts (each scaler_words) (times scaler_at next_index n 0 first (drop first rs)) rs 1
 
-  pub scalers_done : n ≤ k → ScalersIn (Done (first + k) at)
+  pub scalers_done : n ≤ k → ScalersIn (Ok (part (first + k) at))
   scalers_done = counted_done 16 (λ i. of_kind 34) (λ r. r.datum) scaler_row (λ i. scaler_checks 22) (λ i. refl) (λ i v. (tt, tt)) h
 
   module _ (below : k < n) {r : Row} (e : r ≡ get_or rs (first + k) no_row) where
-    pub scaler_refused : {m : ℕ} {part : Part} → m ≡ datum_fault 34 k 0x1000000 r → (m ≡ 0 → ⊥) → part ≡ Refused m (first + k) → ScalersIn part
+    pub scaler_refused : {refused : Refusal} → Failed (datum_fault 34 k 0x1000000 r) (first + k) refused → ScalersIn (Err refused)
     unfolding datum_fault
-    scaler_refused f = counted_refused 16 (λ i. of_kind 34) (λ r. r.datum) scaler_row (λ i. scaler_checks 22) (λ i. refl) (λ i v. (tt, tt)) h below e [] (rw h.reached.holds.1 f)
+    scaler_refused = counted_refused 16 (λ i. of_kind 34) (λ r. r.datum) scaler_row (λ i. scaler_checks 22) (λ i. refl) (λ i v. (tt, tt)) h below e [] (rw h.reached.holds.1)
 
     pub scaler_next : {at' : ℕ} → 0 ≡ datum_fault 34 k 0x1000000 r → at' ≡ at + 2 → Scalers rs n first (k + 1) at'
     unfolding datum_fault
@@ -73,16 +75,16 @@ no_zeros true = refl
 no_zeros false = refl
 
 module _ {rs : List Row} {n first k at : ℕ} {begun : Bool} (h : Chamber rs n first begun k at) where
-  abbrev ChamberIn : Part → Type 0
+  abbrev ChamberIn : PartAnswer → Type 0
   ChamberIn = Counts (each vdc_words) (times vdc_value begins n false first (drop first rs)) rs 1
 
-  pub chamber_done : n ≤ k → ChamberIn (Done (first + k) at)
+  pub chamber_done : n ≤ k → ChamberIn (Ok (part (first + k) at))
   chamber_done = counted_done 16 vdc_stands vdc_of (λ s. vdc_row) (vdc_checks 22) no_zeros (λ s x. (tt, tt)) h
 
   module _ (below : k < n) {r : Row} (e : r ≡ get_or rs (first + k) no_row) where
-    pub vdc_refused : {m : ℕ} {part : Part} → m ≡ vdc_fault begun r → (m ≡ 0 → ⊥) → part ≡ Refused m (first + k) → ChamberIn part
+    pub vdc_refused : {refused : Refusal} → Failed (vdc_fault begun r) (first + k) refused → ChamberIn (Err refused)
     unfolding vdc_fault
-    vdc_refused f = counted_refused 16 vdc_stands vdc_of (λ s. vdc_row) (vdc_checks 22) no_zeros (λ s x. (tt, tt)) h below e [] (rw h.reached.holds.1 f)
+    vdc_refused = counted_refused 16 vdc_stands vdc_of (λ s. vdc_row) (vdc_checks 22) no_zeros (λ s x. (tt, tt)) h below e [] (rw h.reached.holds.1)
 
     pub vdc_next : {at' : ℕ} → 0 ≡ vdc_fault begun r → at' ≡ at + 1 → Chamber rs n first true (k + 1) at'
     unfolding vdc_fault
@@ -119,5 +121,5 @@ module _ (rs : List Row) (n first : ℕ) (some : 1 ≤ first) (right : ChamberRi
   chamber_to zero h = chamber_first
   chamber_to (suc k) h = subst (λ (j : ℕ). Chamber rs n first (ltb 0 j) j (1 + j)) (one_after k) (chamber_more k (omega arith) (chamber_to k (omega arith)))
 
-  pub chamber_right : Counts (each vdc_words) (times vdc_value begins n false first (drop first rs)) rs 1 (Done (first + n) (1 + n))
+  pub chamber_right : Counts (each vdc_words) (times vdc_value begins n false first (drop first rs)) rs 1 (Ok (part (first + n) (1 + n)))
   chamber_right = chamber_done (chamber_to n (omega arith)) (omega arith)

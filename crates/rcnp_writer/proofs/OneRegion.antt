@@ -1,8 +1,10 @@
 -- One region, judged: its own row, then its content by its form. Over plain values.
 -- Assumes nothing.
 use Rattle.std.proofs.Common.{◌≡◌, ℕ, ◌+◌, ◌/◌, ◌<◌, false, T, List, [], ◌∷◌, map, length, get_or, drop, sym, refl, ap, ◌∙◌, arith, eqb→eq}
-use Rattle.event.specs.declared.Part.{Part}
-use Rattle.event.specs.declared.Part.TheVariants.{Refused}
+use Rattle.std.specs.Prelude.{Err}
+use Rattle.event.specs.declared.refusal.Refusal.{Refusal}
+use Rattle.event.specs.Refusal.{PartAnswer}
+use Rattle.event.proofs.Answers.{Failed}
 use Rattle.event.specs.declared.Row.{Row}
 use Rattle.event.specs.Parser.{Result, ok, refuse, then, give, times, each, alone}
 use Rattle.event.specs.Words.{word_alone}
@@ -20,42 +22,47 @@ use Rattle.rcnp_writer.proofs.Contents.{none}
 use Rattle.rcnp_writer.proofs.RowRules.{header_judged}
 
 -- one word, of the rows that a count of 1 announces
-one_word : (x : Result Row ℕ) {rs : List Row} {k : ℕ} {r : Part} → Counts (each word_alone) (then (λ w. give (w ∷ [])) x) rs k r → Counts word_alone x rs k r
+one_word : (x : Result Row ℕ) {rs : List Row} {k : ℕ} {r : PartAnswer} → Counts (each word_alone) (then (λ w. give (w ∷ [])) x) rs k r → Counts word_alone x rs k r
 one_word (ok w j l) s = record { scanned = record { answered = s.scanned.answered; stored = s.scanned.stored }; within = s.within }
 one_word (refuse n p) s = record { scanned = record { answered = s.scanned.answered; stored = tt }; within = s.within }
 
 -- the content from row `first` on, of the form that the id has
 module _ (rs : List Row) (first n : ℕ) where
-  abbrev ContentIn : Form → Part → Type 0
+  abbrev ContentIn : Form → PartAnswer → Type 0
   ContentIn f = Counts (content_words f) (content f n first (drop first rs)) rs 1
 
-  pub scalers_content : (id : ℕ) {r : Part} → id ≡ 6
+  pub scalers_content : (id : ℕ) {r : PartAnswer} → id ≡ 6
       → Counts (each scaler_words) (times scaler_at next_index (n / 2) 0 first (drop first rs)) rs 1 r → ContentIn (form_of id) r
   scalers_content id e w = rw e w
 
-  pub chamber_content : (id : ℕ) {r : Part} → id ≡ 7
+  pub chamber_content : (id : ℕ) {r : PartAnswer} → id ≡ 7
       → Counts (each vdc_words) (times vdc_value begins n false first (drop first rs)) rs 1 r → ContentIn (form_of id) r
   chamber_content id e w = rw e (writes_as 16 (each vdc_words) (map vdc_word) (times vdc_value begins n false first (drop first rs)) (λ xs j l p. each_map vdc_word xs) w)
 
-  abbrev WordsIn : Part → Type 0
+  abbrev WordsIn : PartAnswer → Type 0
   WordsIn = Counts (each word_alone) (times (λ u. word) alone n tt first (drop first rs)) rs 1
 
-  as_words : (f : Form) {r : Part} → (id_of f ≡ 6 → ⊥) → (id_of f ≡ 7 → ⊥) → T (allowed_size f n) → WordsIn r → ContentIn f r
+  as_words : (f : Form) {r : PartAnswer} → (id_of f ≡ 6 → ⊥) → (id_of f ≡ 7 → ⊥) → T (allowed_size f n) → WordsIn r → ContentIn f r
   as_words input_register p q t w = let e : n ≡ 1 = eqb→eq n 1 t in one_word (word first (drop first rs)) (rw e at w)
   as_words scaler p q t w = absurd (p refl)
   as_words vdc p q t w = absurd (q refl)
   as_words (opaque k) p q t w = writes_as 16 (each word_alone) (λ ws. ws) (times (λ u. word) alone n tt first (drop first rs)) (λ ws j l p. each_alone ws) w
 
-  pub words_content : {id : ℕ} {r : Part} → ContentAt rs first id n → (id ≡ 6 → ⊥) → (id ≡ 7 → ⊥) → WordsIn r → ContentIn (form_of id) r
+  pub words_content : {id : ℕ} {r : PartAnswer} → ContentAt rs first id n → (id ≡ 6 → ⊥) → (id ≡ 7 → ⊥) → WordsIn r → ContentIn (form_of id) r
   words_content {id} a p q = as_words (form_of id) (λ e. p (a.known ∙ e)) (λ e. q (a.known ∙ e)) a.allowed
 
 module _ (rs : List Row) (at : ℕ) {r : Row} (e : r ≡ get_or rs at no_row) where
-  abbrev RegionIn : Part → Type 0
+  abbrev RegionIn : PartAnswer → Type 0
   RegionIn = Counts region_words (region at (drop at rs)) rs 0
 
-  pub header_refused : {m : ℕ} {part : Part} → m ≡ header_fault r → (m ≡ 0 → ⊥) → part ≡ Refused m at → RegionIn part
+  pub header_refused : {refused : Refusal} → Failed (header_fault r) at refused → RegionIn (Err refused)
   unfolding header_fault
-  header_refused f z q = writes_refused 16 region_words (rw (row_refused (of_kind 32) header_of header_row header_checks refl (λ h. (tt, (tt, tt))) rs at e f z)) q
+  header_refused t = writes_refused 16 region_words (record {
+    number = header_fault r;
+    place = at;
+    refused = rw (row_refused (of_kind 32) header_of header_row header_checks refl (λ h. (tt, (tt, tt))) rs at e refl t.some);
+    named = t.named;
+  }) refl
 
   module _ (f : 0 ≡ header_fault r) where
     header_taken : (at < length rs) × (header at (drop at rs) ≡ ok (header_of r) (at + 1) (drop (at + 1) rs))
@@ -82,7 +89,7 @@ module _ (rs : List Row) (at : ℕ) {r : Row} (e : r ≡ get_or rs at no_row) wh
     parsed : region at (drop at rs) ≡ then (λ c. give (record { form = form_of r.unit; content = c })) inner
     parsed = rw header_taken.1
 
-    pub region_judged : {x : Part} → Counts (content_words (form_of r.unit)) inner rs 1 x → RegionIn x
+    pub region_judged : {x : PartAnswer} → Counts (content_words (form_of r.unit)) inner rs 1 x → RegionIn x
     region_judged s = writes_as 16 headed region_words (region at (drop at rs)) same_words
         (rw parsed (writes_part 16 (content_words (form_of r.unit)) (header_word r.unit r.channel ∷ []) inner (λ c. record { form = form_of r.unit; content = c }) headed
         (λ c. refl {a = headed (record { form = form_of r.unit; content = c })}) refl (none 0 (header_word r.unit r.channel ∷ [])) s))

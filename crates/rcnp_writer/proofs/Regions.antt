@@ -2,8 +2,10 @@
 -- Assumes nothing.
 use Rattle.std.proofs.Common.{◌≡◌, ℕ, ◌+◌, ◌*◌, ◌/◌, ◌<◌, ◌≤◌, true, false, not, ◌&&◌, eqb, List, [], ◌∷◌, length, drop, refl, ap, ◌∙◌, arith}
 use lib.ListN.{length-map}
+use Rattle.std.specs.Prelude.{Ok, Err}
 use Rattle.event.specs.declared.Part.{Part}
-use Rattle.event.specs.declared.Part.TheVariants.{Done, Refused}
+use Rattle.event.specs.declared.refusal.Refusal.{Refusal}
+use Rattle.event.specs.Refusal.{PartAnswer, part}
 use Rattle.event.specs.declared.Row.{Row}
 use Rattle.event.specs.Parser.{ok, several, each, alone}
 use Rattle.event.specs.Writing.{rows_in, row_at}
@@ -42,19 +44,25 @@ abbrev pub Regions : List Row → (i k : ℕ) → Type 0
 Regions rs i k = WritesOn 16 (up_to_stop at_sum (λ u. region) alone) region_words (λ u. Unit {0}) rs tt 0 0 [] i k []
 
 module _ {rs : List Row} {i k : ℕ} (h : Regions rs i k) where
-  abbrev Judged : Part → Type 0
+  abbrev Judged : PartAnswer → Type 0
   Judged = Counts (each region_words) (several region at_sum 0 rs) rs 0
 
-  pub regions_done : false ≡ not (at_sum (drop i rs)) → Judged (Done i k)
+  pub regions_done : false ≡ not (at_sum (drop i rs)) → Judged (Ok (part i k))
   regions_done = run_done 16 at_sum h
 
-  module _ (going : true ≡ not (at_sum (drop i rs))) {p : Part} (w : Counts region_words (region i (drop i rs)) rs 0 p) where
-    pub region_refused : {n m : ℕ} {x : Part} → p ≡ Refused n m → x ≡ Refused n m → Judged x
-    region_refused e q = rw q (run_refused 16 at_sum h (λ u. codes_region) (λ u g v l. not_sum g.form) refl going [] (unwritten 16 region_words (region i (drop i rs)) (rw e at w.scanned)))
+  module _ (going : true ≡ not (at_sum (drop i rs))) where
+    pub region_refused : {refused : Refusal} → Counts region_words (region i (drop i rs)) rs 0 (Err refused) → Judged (Err refused)
+    region_refused w = run_refused 16 at_sum h (λ u. codes_region) (λ u g v l. not_sum g.form) refl going [] (unwritten 16 region_words (region i (drop i rs)) w.scanned)
 
-    module _ {next count : ℕ} (e : p ≡ Done next count) where
+    module _ {p : Part} (w : Counts region_words (region i (drop i rs)) rs 0 (Ok p)) where
+      abbrev next : ℕ
+      next = p.next
+
+      abbrev count : ℕ
+      count = p.count
+
       whole : Wrote 16 region_words (region i (drop i rs)) 0 [] next count []
-      whole = wrote 16 region_words (region i (drop i rs)) (rw e at w.scanned)
+      whole = wrote 16 region_words (region i (drop i rs)) w.scanned
 
       to : (whole.input ≡ drop next rs) × (next ≡ i + length (region_rows whole.value)) × (next ≤ length rs)
       to = placed codes_region rs i h.inside whole.parsed

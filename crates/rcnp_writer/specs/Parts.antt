@@ -1,7 +1,7 @@
 -- The parts of an event as the code writes them (the contracts of private functions).
 -- Assumes nothing.
 use Rattle.std.specs.Prelude.{◌≡◌, ℕ, ◌+◌, ◌-◌, ◌*◌, ◌%◌, ◌<◌, ◌≤◌, Bool, cond, T, List, [], ◌∷◌, length, take, drop, ◌==◌, nat_lt, slice_index_or}
-use Rattle.event.specs.declared.Part.{Part}
+use Rattle.event.specs.Refusal.{PartAnswer}
 use Rattle.event.specs.declared.Row.{Row}
 use Rattle.event.specs.Parser.{Result, Parser, ◌>>=◌, ◌>>◌, give, finish, each}
 use Rattle.event.specs.Scanning.{store_words, Writes}
@@ -30,7 +30,7 @@ last_region = do
   give w
 
 -- a part that x parsed from rows, whose words are counted after k others, and not stored
-abbrev pub Counts : {A : Type 0} → (A → List ℕ) → Result Row A → List Row → ℕ → Part → Type 0
+abbrev pub Counts : {A : Type 0} → (A → List ℕ) → Result Row A → List Row → ℕ → PartAnswer → Type 0
 Counts words_of x rs k r = Writes 16 words_of x rs k [] r []
 
 -- the words of m rows from row i on
@@ -53,9 +53,13 @@ run_words r = cond (of_kind 32 r) (cond (r.unit == id_of scaler) 0 r.channel) 0
 abbrev pub of_chamber : Row → Bool
 of_chamber r = nat_lt 34 r.kind
 
+-- rows of one word each: of the chamber, or as they are
+abbrev pub such : (chamber : Bool) → Row → Bool
+such chamber r = cond chamber (of_chamber r) (of_kind 33 r)
+
 -- which they are, after a region's own row
 abbrev pub of_run : (own : Row) → Row → Bool
-of_run own r = cond (own.unit == id_of vdc) (of_chamber r) (of_kind 33 r)
+of_run own = such (own.unit == id_of vdc)
 
 -- n rows from `first` on are there, and such
 pub record RunAt (such : Row → Bool) (rs : List Row) (first n : ℕ) : Type 0 where

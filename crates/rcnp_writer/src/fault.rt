@@ -1,48 +1,70 @@
-// The refusal that a row meets where it stands: 21, 22, or 0 for none.
-ghost use Rattle.std.specs.Prelude.{◌≡◌, if◌then◌else◌};
+// The rules of a row where it stands: it is refused by 21 or 22.
+ghost use Rattle.std.specs.Prelude.{◌≡◌, ◌&&◌, eqb};
+ghost use Rattle.event.specs.Kind.{number as kind_number};
+ghost use Rattle.event.specs.Refusal.{verdict};
+ghost use Rattle.rcnp_layout.specs.Event.{id_of, form_of};
+ghost use Rattle.rcnp_layout.specs.Layout.{allowed_size};
 ghost use Rattle.rcnp_writer.specs.Faults.{header_fault, sum_fault, datum_fault, vdc_fault, last_kind, VdcRight};
 
-use event::{Row, kind, refusal};
-use rcnp_format::{allows_size, has_form};
+use event::Row;
+use event::kind::Kind;
+use event::refusal::{Fault, Refusal, refuse};
+use event::words::pick;
+use rcnp_format::Form;
 
 // A region's own row: its id, a size of 12 bits that the id allows, 0.
-pub(crate) fn header_fault(row: Row) -> u32
-    ensures { result ≡ header_fault row }
+pub(crate) fn check_header(row: Row, place: usize) -> Result<(), Refusal>
+    ensures { result ≡ verdict (header_fault row) place }
 {
-    if row.kind != kind::REGION {
-        return refusal::KIND;
+    if row.kind != Kind::Region as u32 {
+        return refuse(Fault::Kind, place);
     }
-    let allowed = has_form(row.unit) & allows_size(row.unit, row.channel);
-    if (row.channel < 4096) & (row.datum == 0) & allowed {
-        return 0;
+    if (row.channel < 4096) & (row.datum == 0) & has_size(row.unit, row.channel) {
+        return Ok(());
     }
-    refusal::FIELD
+    refuse(Fault::Field, place)
+}
+
+// Whether a region before the check sum may have this id and this size.
+fn has_size(id: u32, size: u32) -> bool
+    ensures { result ≡ eqb id (id_of (form_of id)) && allowed_size (form_of id) size }
+{
+    match Form::of(id) {
+        Some(form) => form.allows_size(size),
+        None => false,
+    }
 }
 
 // The own row of the check sum region.
-pub(crate) fn sum_fault(row: Row) -> u32
-    ensures { result ≡ sum_fault row }
+pub(crate) fn check_sum_header(row: Row, place: usize) -> Result<(), Refusal>
+    ensures { result ≡ verdict (sum_fault row) place }
 {
-    if row.kind != kind::REGION {
-        return refusal::KIND;
+    if row.kind != Kind::Region as u32 {
+        return refuse(Fault::Kind, place);
     }
     if (row.unit == rcnp_format::CHECK_SUM) & (row.channel == 1) & (row.datum == 0) {
-        return 0;
+        return Ok(());
     }
-    refusal::FIELD
+    refuse(Fault::Field, place)
 }
 
 // A row of this kind: unit 0, this channel, a datum below `end`.
-pub(crate) fn datum_fault(row: Row, kind: u32, channel: u32, end: u32) -> u32
-    ensures { result ≡ datum_fault kind channel end row }
+pub(crate) fn check_datum(
+    row: Row,
+    kind: Kind,
+    channel: u32,
+    end: u32,
+    place: usize,
+) -> Result<(), Refusal>
+    ensures { result ≡ verdict (datum_fault (kind_number kind) channel end row) place }
 {
-    if row.kind != kind {
-        return refusal::KIND;
+    if row.kind != kind.number() {
+        return refuse(Fault::Kind, place);
     }
     if (row.unit == 0) & (row.channel == channel) & (row.datum < end) {
-        return 0;
+        return Ok(());
     }
-    refusal::FIELD
+    refuse(Fault::Field, place)
 }
 
 // A row of a VDC region that breaks no rule; `most` is the last kind that may stand there. (Nothing is asked by the kind: headers and data alternate in no order,
@@ -50,39 +72,30 @@ pub(crate) fn datum_fault(row: Row, kind: u32, channel: u32, end: u32) -> u32
 pub(crate) fn vdc_right(row: Row, most: u32) -> bool
     ensures { VdcRight row most result }
 {
-    let head = row.kind == kind::VDC_MODULE;
+    let head = row.kind == Kind::VdcModule as u32;
     let unit = row.unit < pick(head, 256, 1);
     let channel = row.channel < pick(head, 8, 32);
     let datum = row.datum < pick(head, 8, 1024);
-    ((kind::VDC_MODULE <= row.kind) & (row.kind <= most)) & (unit & (channel & datum))
+    ((row.kind >= Kind::VdcModule as u32) & (row.kind <= most)) & (unit & (channel & datum))
 }
 
 // The last kind that may stand in a VDC region: a datum where it has begun, else a module's header.
 pub(crate) fn last_kind(begun: bool) -> u32
     ensures { result ≡ last_kind begun }
 {
-    pick(begun, kind::VDC_DATUM, kind::VDC_MODULE)
+    pick(begun, Kind::VdcDatum as u32, Kind::VdcModule as u32)
 }
 
 // A row of a VDC region: a module's header, or a datum where the region has begun.
-pub(crate) fn vdc_fault(row: Row, begun: bool) -> u32
-    ensures { result ≡ vdc_fault begun row }
+pub(crate) fn check_vdc(row: Row, begun: bool, place: usize) -> Result<(), Refusal>
+    ensures { result ≡ verdict (vdc_fault begun row) place }
 {
     let most = last_kind(begun);
     if vdc_right(row, most) {
-        return 0;
+        return Ok(());
     }
-    if row.kind < kind::VDC_MODULE {
-        return refusal::KIND;
+    if row.kind < Kind::VdcModule as u32 || most < row.kind {
+        return refuse(Fault::Kind, place);
     }
-    if most < row.kind {
-        return refusal::KIND;
-    }
-    refusal::FIELD
-}
-
-fn pick(first: bool, a: u32, b: u32) -> u32
-    ensures { result ≡ (if first then a else b) }
-{
-    if first { a } else { b }
+    refuse(Fault::Field, place)
 }

@@ -16,35 +16,23 @@ ghost use Rattle.rcnp_layout.specs.Writing.{writing};
 
 use crate::fill::write_regions;
 use crate::whole::count_words;
-use event::{Answer, refusal};
+use event::refusal::{Fault, Refusal, refuse};
 
 // Writes one event from its rows, four elements each. A refused writing leaves every word as it was.
-pub fn write(rows: &[u32], words: &mut [u16]) -> Answer
+pub fn write(rows: &[u32], words: &mut [u16]) -> Result<usize, Refusal>
     ensures answer { result ≡ answer_of (in_word_room (length words.old) (writing rows.now)) }
     ensures words { words.new ≡ overlaid (given (in_word_room (length words.old) (writing rows.now))) words.old }
 {
     if rows.len() % 4 != 0 {
-        return Answer::Refused {
-            number: refusal::ELEMENTS,
-            place: 0,
-        };
+        return refuse(Fault::Elements, 0);
     }
-    let counted = count_words(rows);
-    let Answer::Accepted(count) = counted else {
-        return counted;
-    };
+    let count = count_words(rows)?;
     if rcnp_format::LARGEST_EVENT < count {
-        return Answer::Refused {
-            number: refusal::LARGE,
-            place: count,
-        };
+        return refuse(Fault::Large, count);
     }
     if words.len() < count {
-        return Answer::Refused {
-            number: refusal::WORDS,
-            place: count,
-        };
+        return refuse(Fault::Words, count);
     }
     write_regions(rows, words);
-    Answer::Accepted(count)
+    Ok(count)
 }

@@ -7,11 +7,13 @@ ghost use Rattle.rcnp_layout.specs.Layout.{region_words, sum_words, summed, word
 ghost use Rattle.rcnp_layout.specs.Writing.{region, at_sum, parts_with};
 ghost use Rattle.rcnp_writer.specs.Parts.{Counts, last_region};
 
-use crate::fault::{datum_fault, sum_fault};
+use crate::fault::{check_datum, check_sum_header};
 use crate::region::judge_region;
 use crate::sum::row_sum;
+use event::Part;
+use event::kind::Kind;
+use event::refusal::{Fault, Refusal, refuse};
 use event::rows::row_at;
-use event::{Answer, Part, kind, refusal, refuse_part};
 
 // Row `at` is there, and not the check sum region's own.
 fn before_sum(rows: &[u32], at: usize) -> bool
@@ -19,83 +21,57 @@ fn before_sum(rows: &[u32], at: usize) -> bool
 {
     if at < rows.len() / 4 {
         let row = row_at(rows, at);
-        return !((kind::REGION == row.kind) & (rcnp_format::CHECK_SUM == row.unit));
+        return !((Kind::Region as u32 == row.kind) & (rcnp_format::CHECK_SUM == row.unit));
     }
     false
 }
 
-// The regions before the check sum.
-fn judge_regions(rows: &[u32]) -> Part
+// The regions before the check sum. (How many rows a region has is known only once it is judged.)
+fn judge_regions(rows: &[u32]) -> Result<Part, Refusal>
     ensures { Counts (each region_words) (several region at_sum 0 (rows_in rows.now)) (rows_in rows.now) 0 result }
 {
     let mut i: usize = 0;
     let mut at: usize = 0;
     while before_sum(rows, i) {
-        let judged = judge_region(rows, i);
-        let Part::Done { next, count } = judged else {
-            return judged;
-        };
-        at += count;
-        i = next;
+        let judged = judge_region(rows, i)?;
+        at += judged.count;
+        i = judged.next;
     }
-    Part::Done { next: i, count: at }
+    Ok(Part { next: i, count: at })
 }
 
 // The check sum region, whose own row is row `at`. No row follows it.
-fn judge_check_sum(rows: &[u32], at: usize) -> Part
+fn judge_check_sum(rows: &[u32], at: usize) -> Result<Part, Refusal>
     requires { at ≤ length (rows_in rows.now) }
     ensures { Counts sum_words (last_region at (drop at (rows_in rows.now))) (rows_in rows.now) 0 result }
 {
-    let number = sum_fault(row_at(rows, at));
-    if number != 0 {
-        return refuse_part(number, at);
-    }
-    let number = datum_fault(row_at(rows, at + 1), kind::REGION_WORD, 0, 65536);
-    if number != 0 {
-        return refuse_part(number, at + 1);
-    }
+    check_sum_header(row_at(rows, at), at)?;
+    check_datum(row_at(rows, at + 1), Kind::RegionWord, 0, 65536, at + 1)?;
     if at + 2 < rows.len() / 4 {
-        return refuse_part(refusal::KIND, at + 2);
+        return refuse(Fault::Kind, at + 2);
     }
-    Part::Done {
+    Ok(Part {
         next: at + 2,
         count: 2,
-    }
+    })
 }
 
 // The rows one after another, up to the first that breaks a rule of its own.
-fn judge_rows(rows: &[u32]) -> Answer
+fn judge_rows(rows: &[u32]) -> Result<usize, Refusal>
     ensures { ScannedBy (writing_all 16) words_of (parts_with (finish 21) 0 (rows_in rows.now)) 0 [] result [] }
 {
-    let regions = judge_regions(rows);
-    match regions {
-        Part::Refused { number, place } => Answer::Refused { number, place },
-        Part::Done { next, count } => {
-            let last = judge_check_sum(rows, next);
-            match last {
-                Part::Refused { number, place } => Answer::Refused { number, place },
-                Part::Done {
-                    next: _,
-                    count: more,
-                } => Answer::Accepted(count + more),
-            }
-        }
-    }
+    let regions = judge_regions(rows)?;
+    let last = judge_check_sum(rows, regions.next)?;
+    Ok(regions.count + last.count)
 }
 
 // The number of the event's words, or its first refusal: a wrong sum, which the whole event fixes, after all rows, at the last one.
-pub(crate) fn count_words(rows: &[u32]) -> Answer
+pub(crate) fn count_words(rows: &[u32]) -> Result<usize, Refusal>
     ensures { ScannedBy (writing_all 16) words_of (lastly summed 22 (parts_with (finish 21)) 0 (rows_in rows.now)) 0 [] result [] }
 {
-    let counted = judge_rows(rows);
-    let Answer::Accepted(count) = counted else {
-        return counted;
-    };
+    let count = judge_rows(rows)?;
     if row_sum(rows) != 0 {
-        return Answer::Refused {
-            number: refusal::FIELD,
-            place: rows.len() / 4 - 1,
-        };
+        return refuse(Fault::Field, rows.len() / 4 - 1);
     }
-    Answer::Accepted(count)
+    Ok(count)
 }

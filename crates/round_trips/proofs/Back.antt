@@ -6,13 +6,13 @@ use mathlib.Core.Path.{◌≡◌, sym, ap, ◌∙◌}
 use mathlib.Core.List.{List}
 use lib.ListN.{length, take, drop}
 use lib.Seq.{take_at}
-use Rattle.event.specs.declared.Answer.TheVariants.{Accepted, Refused}
+use Rattle.std.specs.Prelude.{Ok}
 use Rattle.event.specs.declared.Row.{Row}
 use Rattle.event.specs.declared.StampOrder.{StampOrder}
-use Rattle.event.specs.Outcome.{Outcome, done, refused, answer_of, given, overlaid}
+use Rattle.event.specs.Outcome.{Outcome, done, answer_of, given, overlaid}
 use Rattle.event.specs.Rows.{flat, room}
 use Rattle.event.specs.Writing.{rows_in}
-use Rattle.event.proofs.Answers.{Given, refused_by, given_by}
+use Rattle.event.proofs.Answers.{Given, given_by}
 use Rattle.event.proofs.RowCodes.{flat_in}
 use Rattle.event.proofs.Stores.{length_flat}
 use Rattle.event.proofs.Whole.{limited_iff}
@@ -30,16 +30,13 @@ module _ (d : Dialect) (o : StampOrder) where
     abbrev back : Outcome ℕ
     back = back_words d o (room (length rows)) wordRoom ws
 
-    pub not_read : {n p : ℕ} → Refused n p ≡ answer_of read → back ≡ refused n p
-    not_read e = rw (refused_by read e)
-
     its_rows_lem : {k : ℕ} (g : Given read k) → (reading d o ws ≡ done g.items) × (k * 4 ≤ length rows)
     its_rows_lem g = let h = (limited_iff 12 (room (length rows)) (reading d o ws) g.items).0 g.outcome in (h.0, omega (arith, h.1, g.counted))
 
-    pub rows_inside : {k : ℕ} → Accepted k ≡ answer_of read → k * 4 ≤ length rows
+    pub rows_inside : {k : ℕ} → Ok k ≡ answer_of read → k * 4 ≤ length rows
     rows_inside e = (its_rows_lem (given_by read e)).1
 
-    pub words_back : {k : ℕ} {rows' part : List ℕ} → Accepted k ≡ answer_of read → rows' ≡ overlaid (flat (given read)) rows → part ≡ take (k * 4) rows' → writing_into d wordRoom o part ≡ back
+    pub words_back : {k : ℕ} {rows' part : List ℕ} → Ok k ≡ answer_of read → rows' ≡ overlaid (flat (given read)) rows → part ≡ take (k * 4) rows' → writing_into d wordRoom o part ≡ back
     words_back {k} {rows'} {part} e a p = go (given_by read e)
       where
         go : Given read k → writing_into d wordRoom o part ≡ back
@@ -56,10 +53,7 @@ module _ (d : Dialect) (o : StampOrder) where
     abbrev rows_again : Outcome Row
     rows_again = back_rows d o (length words) rowRoom xs
 
-    pub not_written : {n p : ℕ} → Refused n p ≡ answer_of written → rows_again ≡ refused n p
-    not_written e = rw (refused_by written e)
-
-    pub rows_back : {k : ℕ} {part : List ℕ} → Accepted k ≡ answer_of written → part ≡ take k (overlaid (given written) words) → reading_into d rowRoom o part ≡ rows_again
+    pub rows_back : {k : ℕ} {part : List ℕ} → Ok k ≡ answer_of written → part ≡ take k (overlaid (given written) words) → reading_into d rowRoom o part ≡ rows_again
     rows_back {k} {part} e p = go (given_by written e)
       where
         go : Given written k → reading_into d rowRoom o part ≡ rows_again

@@ -1,17 +1,19 @@
--- The length and the tag of a packet, set when its words are counted.
+-- The length and the tag of a packet, set when its content is written.
 -- Assumes nothing.
 use Prim.Native.Nat.{ℕ, ◌+◌, ◌-◌}
 use native.Mathlib.Omega.{arith}
-use mathlib.Core.Path.{◌≡◌, ap, ◌∙◌}
+use mathlib.Core.Path.{◌≡◌, refl, ap, ◌∙◌}
 use mathlib.Core.List.{List, ◌∷◌}
 use lib.ListN.{length}
+use Rattle.std.specs.Prelude.{Ok, Err}
 use Rattle.event.specs.declared.Part.{Part}
-use Rattle.event.specs.declared.Part.TheVariants.{Done}
+use Rattle.event.specs.declared.refusal.Refusal.{Refusal}
 use Rattle.event.specs.declared.Row.{Row}
-use Rattle.event.specs.Parser.{Result, ok, refuse}
+use Rattle.event.specs.Parser.{Result}
 use Rattle.event.specs.Words.{store_word}
-use Rattle.event.specs.Scanning.{store_words, ScannedBy, writing_part, Writes}
+use Rattle.event.specs.Scanning.{store_words, Writes}
 use Rattle.event.proofs.WordStores.{stored_before}
+use Rattle.event.proofs.WritingTurns.{Wrote, wrote, unwritten, writes_refused, writes_done}
 use Rattle.s800_layout.specs.Layout.{framed}
 use Rattle.s800_writer.specs.Packets.{closed}
 
@@ -24,17 +26,15 @@ framed_last b ws at tag n e =
     ∙ ap (λ (k : ℕ). store_words 16 (store_word 16 (store_word 16 b at n) (at + 1) tag) k ws) two
     ∙ ap (λ (m : ℕ). store_words 16 b at (m ∷ tag ∷ ws)) e
 
-closed_scan : {A : Type 0} (f : A → List ℕ) (at tag : ℕ) (x : Result Row A) {b b' b'' : List ℕ} {r r' : Part} → ScannedBy (writing_part 16) f x (at + 2) b r b' → r' ≡ r → b'' ≡ closed at tag r b'
-    → ScannedBy (writing_part 16) (λ a. framed tag (f a)) x at b r' b''
-closed_scan f at tag (refuse n p) s q c = record { answered = q ∙ s.answered; stored = tt }
-closed_scan f at tag (ok a j l) {b} {b'} {b''} {r} s q c =
-    let n : at + 2 + length (f a) ≡ at + length (framed tag (f a)) = omega arith in
-    let m : at + 2 + length (f a) - at ≡ 2 + length (f a) = omega arith in
-    record {
-      answered = q ∙ s.answered ∙ ap (Done j) n;
-      stored = c ∙ rw (s.answered, s.stored) (framed_last b (f a) at tag _ m);
-    }
+module _ {A : Type 0} (f : A → List ℕ) (at tag : ℕ) (x : Result Row A) {rs : List Row} {b b' : List ℕ} where
+  pub closed_refused : {r : Refusal} {after : List ℕ} → Writes 16 f x rs (at + 2) b (Err r) b' → Writes 16 (λ a. framed tag (f a)) x rs at b (Err r) after
+  closed_refused s = writes_refused 16 (λ a. framed tag (f a)) (unwritten 16 f x s.scanned) refl
 
-pub closed_writes : {A : Type 0} (f : A → List ℕ) (at tag : ℕ) (x : Result Row A) {rs : List Row} {b b' b'' : List ℕ} {r r' : Part} → Writes 16 f x rs (at + 2) b r b' → r' ≡ r → b'' ≡ closed at tag r b'
-    → Writes 16 (λ a. framed tag (f a)) x rs at b r' b''
-closed_writes f at tag x s q c = record { scanned = closed_scan f at tag x s.scanned q c; within = rw q s.within }
+  pub closed_writes : {p : Part} {b'' : List ℕ} → Writes 16 f x rs (at + 2) b (Ok p) b' → b'' ≡ closed at tag p.count b' → Writes 16 (λ a. framed tag (f a)) x rs at b (Ok p) b''
+  closed_writes {p} {b''} s c = go (wrote 16 f x {j = p.next} {e = p.count} s.scanned)
+    where
+      go : Wrote 16 f x (at + 2) b p.next p.count b' → Writes 16 (λ a. framed tag (f a)) x rs at b (Ok p) b''
+      go w =
+          let counted : p.count ≡ at + length (framed tag (f w.value)) = omega (arith, w.counted) in
+          let size : p.count - at ≡ 2 + length (f w.value) = omega (arith, w.counted) in
+          writes_done 16 (λ a. framed tag (f a)) {j = p.next} {e = p.count} w.parsed refl counted (c ∙ rw w.stored (framed_last b (f w.value) at tag (p.count - at) size)) s.within.0 s.within.1

@@ -2,44 +2,83 @@
 -- Assumes nothing.
 use Prim.Native.Nat.{ℕ, suc, ◌≤◌}
 use native.Mathlib.Omega.{arith}
-use mathlib.Core.Path.{◌≡◌, refl, sym, ap, ◌∙◌}
+use mathlib.Core.Path.{◌≡◌, refl, sym, ◌∙◌}
 use mathlib.Core.Bool.{Bool, true, false, cond, ◌&&◌}
 use mathlib.Core.List.{List}
 use lib.Dec.{eqb, ltb, leb}
 use lib.ListN.{get_or, drop}
-use borrow.Author.Tests.{eq-eqb, ne_eqb, eqb-true, leb-true, leb-false, ltb-true, ltb-false}
-use Rattle.event.specs.declared.Part.{Part}
-use Rattle.event.specs.declared.Part.TheVariants.{Refused}
+use borrow.Author.Tests.{eq-eqb, eqb-true, leb-true, leb-false, ltb-true, ltb-false}
 use Rattle.event.specs.declared.Row.{Row}
 use Rattle.event.specs.Scanning.{Writes}
 use Rattle.event.specs.Writing.{is_same_row, no_row}
-use Rattle.event.proofs.Impossible.{impossible}
-use Rattle.event.proofs.RowJudged.{row_taken, row_refused}
+use Rattle.event.proofs.RowJudged.{row_taken}
 use Rattle.event.proofs.WritingTurns.{writes_refused}
-use Rattle.s800_layout.specs.Event.{Opaque, Form, trigger, time_of_flight, scintillator, ion_chamber, crdc, hodoscope, object_pin, vme_adc, opaque, form_of, tag, largest_id}
+use Rattle.s800_layout.specs.Event.{Opaque, Form, trigger, time_of_flight, scintillator, ion_chamber, crdc, hodoscope, object_pin, vme_adc, opaque, form_of, tag, largest_id, focal_plane_time, intermediate_crdc, target_pin, intermediate_track, intermediate_ppac, object_scintillator}
 use Rattle.s800_layout.specs.Layout.{packet_words, id_checks}
 use Rattle.s800_layout.specs.Writing.{of_tag, header_of, header_row, packet}
 use Rattle.s800_writer.specs.Packets.{id_count, header_fault, WritesPacket}
+use Rattle.event.specs.Refusal.{PartAnswer}
+use Rattle.std.specs.Prelude.{Err}
+use Rattle.event.specs.declared.refusal.Refusal.{Refusal}
+use Rattle.event.specs.Refusal.{PartAnswer}
+use Rattle.event.proofs.Answers.{Failed}
+use Rattle.s800_writer.proofs.Failures.{row_failed, refused_first}
+use Rattle.s800_format.specs.declared.tag.Tag.{Tag}
+use Rattle.s800_format.specs.declared.tag.Tag.TheVariants as is
+use Rattle.s800_format.specs.Tag.{number}
 
--- a form's tag that is none of the others'
-pub an_opaque : (t : ℕ) → tag (form_of t) ≡ t → ((f : Form) → ((k : Opaque) → f ≡ opaque k → ⊥) → t ≡ tag f → ⊥) → (k : Opaque) × (form_of t ≡ opaque k)
-an_opaque t e other = go (form_of t) refl
-  where
-    go : (f : Form) → form_of t ≡ f → (k : Opaque) × (f ≡ opaque k)
-    go trigger q = absurd (other trigger (λ k z. impossible cc) (sym e ∙ ap tag q))
-    go time_of_flight q = absurd (other time_of_flight (λ k z. impossible cc) (sym e ∙ ap tag q))
-    go scintillator q = absurd (other scintillator (λ k z. impossible cc) (sym e ∙ ap tag q))
-    go ion_chamber q = absurd (other ion_chamber (λ k z. impossible cc) (sym e ∙ ap tag q))
-    go crdc q = absurd (other crdc (λ k z. impossible cc) (sym e ∙ ap tag q))
-    go hodoscope q = absurd (other hodoscope (λ k z. impossible cc) (sym e ∙ ap tag q))
-    go object_pin q = absurd (other object_pin (λ k z. impossible cc) (sym e ∙ ap tag q))
-    go vme_adc q = absurd (other vme_adc (λ k z. impossible cc) (sym e ∙ ap tag q))
-    go (opaque k) q = (k, refl)
+-- none of the tags of the forms that have words of their own
+pub record Remaining (t : Tag) : Type 0 where
+  pub not_trigger : t ≡ is.Trigger → ⊥
+  pub not_time_of_flight : t ≡ is.TimeOfFlight → ⊥
+  pub not_scintillator : t ≡ is.Scintillator → ⊥
+  pub not_ion_chamber : t ≡ is.IonChamber → ⊥
+  pub not_crdc : t ≡ is.Crdc → ⊥
+  pub not_hodoscope : t ≡ is.Hodoscope → ⊥
+  pub not_object_pin : t ≡ is.ObjectPin → ⊥
+  pub not_vme_adc : t ≡ is.VmeAdc → ⊥
+
+-- is an opaque form's, where it is one of a form
+pub an_opaque : (t : Tag) → Remaining t → tag (form_of (number t)) ≡ number t → (k : Opaque) × (form_of (number t) ≡ opaque k)
+an_opaque is.Event n e = absurd (omega arith)
+an_opaque is.Trigger n e = absurd (n.not_trigger refl)
+an_opaque is.TimeOfFlight n e = absurd (n.not_time_of_flight refl)
+an_opaque is.Timestamp n e = absurd (omega arith)
+an_opaque is.EventNumber n e = absurd (omega arith)
+an_opaque is.Scintillator n e = absurd (n.not_scintillator refl)
+an_opaque is.IonChamber n e = absurd (n.not_ion_chamber refl)
+an_opaque is.IonChamberEnergies n e = absurd (omega arith)
+an_opaque is.FocalPlaneTime n e = (focal_plane_time, refl)
+an_opaque is.Crdc n e = absurd (n.not_crdc refl)
+an_opaque is.CrdcSamples n e = absurd (omega arith)
+an_opaque is.CrdcAnode n e = absurd (omega arith)
+an_opaque is.IntermediateCrdc n e = (intermediate_crdc, refl)
+an_opaque is.TargetPin n e = (target_pin, refl)
+an_opaque is.IntermediateTrack n e = (intermediate_track, refl)
+an_opaque is.IntermediatePpac n e = (intermediate_ppac, refl)
+an_opaque is.ObjectScintillator n e = (object_scintillator, refl)
+an_opaque is.ObjectPin n e = absurd (n.not_object_pin refl)
+an_opaque is.Hodoscope n e = absurd (n.not_hodoscope refl)
+an_opaque is.VmeAdc n e = absurd (n.not_vme_adc refl)
+
+-- a form's tag is a tag
+pub some_tag : (f : Form) → (t : Tag) × (tag f ≡ number t)
+some_tag trigger = (is.Trigger, refl)
+some_tag time_of_flight = (is.TimeOfFlight, refl)
+some_tag scintillator = (is.Scintillator, refl)
+some_tag ion_chamber = (is.IonChamber, refl)
+some_tag crdc = (is.Crdc, refl)
+some_tag hodoscope = (is.Hodoscope, refl)
+some_tag object_pin = (is.ObjectPin, refl)
+some_tag vme_adc = (is.VmeAdc, refl)
+some_tag (opaque focal_plane_time) = (is.FocalPlaneTime, refl)
+some_tag (opaque intermediate_crdc) = (is.IntermediateCrdc, refl)
+some_tag (opaque target_pin) = (is.TargetPin, refl)
+some_tag (opaque intermediate_track) = (is.IntermediateTrack, refl)
+some_tag (opaque intermediate_ppac) = (is.IntermediatePpac, refl)
+some_tag (opaque object_scintillator) = (is.ObjectScintillator, refl)
 
 module _ (r : Row) where
-  pub header_kind : (r.kind ≡ 1 → ⊥) → 21 ≡ header_fault r
-  header_kind z = rw (ne_eqb 1 r.kind (λ e. z (sym e)))
-
   module _ (same : r.kind ≡ 1) where
     pub header_unknown : {n : ℕ} → n ≡ id_count r.unit → n ≡ 0 → 21 ≡ header_fault r
     unfolding id_count
@@ -83,8 +122,9 @@ module _ (r : Row) where
 
 -- a row without a fault: its tag is its form's, and its id one of the form's
 module _ (rs : List Row) (i : ℕ) {r : Row} (e : r ≡ get_or rs i no_row) where
-  pub own_refused : {n : ℕ} {b after : List ℕ} {p : Part} → n ≡ header_fault r → (n ≡ 0 → ⊥) → p ≡ Refused n i → Writes 16 packet_words (packet i (drop i rs)) rs 0 b p after
-  own_refused f z = writes_refused 16 packet_words (rw (row_refused (λ r. of_tag (tag (form_of r.unit)) r) header_of header_row (λ h. id_checks 22 h.form h.id) refl (λ h. (tt, tt)) rs i e f z))
+  pub own_refused : {b after : List ℕ} {refused : Refusal} → Failed (header_fault r) i refused → Writes 16 packet_words (packet i (drop i rs)) rs 0 b (Err refused) after
+  own_refused t =
+      writes_refused 16 packet_words (refused_first _ (row_failed (λ r. of_tag (tag (form_of r.unit)) r) header_of header_row (λ h. id_checks 22 h.form h.id) refl (λ h. (tt, tt)) rs i e refl t)) refl
 
   module _ (f : 0 ≡ header_fault r) where
     pub own_known : (tag (form_of r.unit) ≡ r.unit) × (r.channel ≤ largest_id (form_of r.unit))
@@ -98,5 +138,5 @@ module _ (rs : List Row) (i : ℕ) {r : Row} (e : r ≡ get_or rs i no_row) wher
         go true false p s c q h = absurd (omega arith)
         go false b p s c q h = absurd (omega arith)
 
-    pub own_taken : {b after : List ℕ} {p : Part} → WritesPacket (form_of r.unit) r.channel rs i b p after → Writes 16 packet_words (packet i (drop i rs)) rs 0 b p after
+    pub own_taken : {b after : List ℕ} {p : PartAnswer} → WritesPacket (form_of r.unit) r.channel rs i b p after → Writes 16 packet_words (packet i (drop i rs)) rs 0 b p after
     own_taken s = rw (row_taken (λ r. of_tag (tag (form_of r.unit)) r) header_of header_row (λ h. id_checks 22 h.form h.id) refl (λ h. (tt, tt)) rs i e f).1 s

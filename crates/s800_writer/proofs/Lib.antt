@@ -1,4 +1,4 @@
-pub mod Faults
+pub mod Failures
 pub mod Limits
 pub mod Datum
 pub mod Channels

@@ -5,8 +5,6 @@ use mathlib.Core.Path.{◌≡◌, refl}
 use mathlib.Core.List.{List}
 use lib.ListN.{length, take, drop}
 use borrow.Rule.Slice.PartMut.{put_mid}
-use Rattle.event.specs.declared.Part.{Part}
-use Rattle.event.specs.declared.Part.TheVariants.{Done, Refused}
 use Rattle.event.specs.declared.Row.{Row}
 use Rattle.event.specs.Parser.{ended, several, each, alone}
 use Rattle.event.specs.Scanning.{Writes}
@@ -17,25 +15,28 @@ use Rattle.s800_layout.specs.Layout.{packet_words}
 use Rattle.s800_layout.specs.Writing.{packet}
 use Rattle.s800_layout.proofs.Rows.{codes_packet}
 use Rattle.s800_writer.proofs.FewWords.{few_words}
+use Rattle.event.specs.Refusal.{PartAnswer, part}
+use Rattle.std.specs.Prelude.{Err, Ok}
+use Rattle.event.specs.declared.refusal.Refusal.{Refusal}
+use Rattle.event.specs.declared.Part.{Part}
 
 abbrev pub Packets : List Row → ℕ → ℕ → List ℕ → ℕ → ℕ → List ℕ → Type 0
 Packets rs = WritesOn 16 (up_to_stop ended (λ u. packet) alone) packet_words (λ u. Unit {0}) rs tt
 
 module _ {rs : List Row} {i₀ k₀ i k : ℕ} {b₀ b : List ℕ} (h : Packets rs i₀ k₀ b₀ i k b) where
-  abbrev Written : Part → List ℕ → Type 0
+  abbrev Written : PartAnswer → List ℕ → Type 0
   Written = Writes 16 (each packet_words) (several packet ended i₀ (drop i₀ rs)) rs k₀ b₀
 
-  pub packets_done : length rs ≤ i → Written (Done i k) b
+  pub packets_done : length rs ≤ i → Written (Ok (part i k)) b
   packets_done = parts_done 16 h
 
-  module _ (below : i < length rs) {start : ℕ} (s : start ≡ min k (length b)) {part part' : List ℕ} (lent : part ≡ take (length b - start) (drop start b)) {p : Part}
-      (w : Writes 16 packet_words (packet i (drop i rs)) rs 0 part p part') where
-    pub packets_stop : {n m : ℕ} (after : List ℕ) → p ≡ Refused n m → Written (Refused n m) after
-    packets_stop = part_refused 16 (λ u. codes_packet) (λ q l. tt) tt (λ q l. refl) few_words h below s lent w
+  module _ (below : i < length rs) {start : ℕ} (s : start ≡ min k (length b)) {part part' : List ℕ} (lent : part ≡ take (length b - start) (drop start b)) where
+    pub packets_stop : {refused : Refusal} (after : List ℕ) → Writes 16 packet_words (packet i (drop i rs)) rs 0 part (Err refused) part' → Written (Err refused) after
+    packets_stop after w = part_refused 16 (λ u. codes_packet) (λ q l. tt) tt (λ q l. refl) few_words h below s lent w after refl
 
-    module _ {next count : ℕ} (e : p ≡ Done next count) where
-      pub packets_within : (next ≤ length rs) × (i < next) × (k + count ≤ 4 * next)
-      packets_within = part_within 16 (λ u. codes_packet) (λ q l. tt) tt (λ q l. refl) few_words h below s lent w e
+    module _ {p : Part} (w : Writes 16 packet_words (packet i (drop i rs)) rs 0 part (Ok p) part') where
+      pub packets_within : (p.next ≤ length rs) × (i < p.next) × (k + p.count ≤ 4 * p.next)
+      packets_within = part_within 16 (λ u. codes_packet) (λ q l. tt) tt (λ q l. refl) few_words h below s lent w {j = p.next} {n = p.count} refl
 
-      pub packets_step : {b' : List ℕ} → b' ≡ put_mid start (length b - start) b part' → Packets rs i₀ k₀ b₀ next (k + count) b'
-      packets_step = part_taken 16 (λ u. codes_packet) (λ q l. tt) tt (λ q l. refl) few_words h below s lent w e (λ q l g z. tt)
+      pub packets_step : {b' : List ℕ} → b' ≡ put_mid start (length b - start) b part' → Packets rs i₀ k₀ b₀ p.next (k + p.count) b'
+      packets_step = part_taken 16 (λ u. codes_packet) (λ q l. tt) tt (λ q l. refl) few_words h below s lent w {j = p.next} {n = p.count} refl (λ q l g z. tt)

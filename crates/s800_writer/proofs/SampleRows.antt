@@ -9,14 +9,18 @@ use lib.Dec.{T, eqb, leb, eqb→eq, ltb→lt, lt→ltb, leb→le, le→leb}
 use lib.ListN.{length, get_or, drop}
 use borrow.Author.Tests.{eq-eqb, ne_eqb}
 use Rattle.event.specs.declared.Row.{Row}
-use Rattle.event.specs.Parser.{ok, refuse, fault_in}
+use Rattle.event.specs.Parser.{ok, fault_in}
 use Rattle.event.specs.Writing.{row_tests, of_kind, no_row}
 use Rattle.event.proofs.RowFaults.{Judged, judged, Tested, tested, each_of, three}
-use Rattle.event.proofs.RowJudged.{row_taken, row_refused}
+use Rattle.event.proofs.RowJudged.{row_taken}
 use Rattle.s800_layout.specs.Event.{SampleHead}
 use Rattle.s800_layout.specs.Layout.{sample_datum_row, sample_datum_checks}
 use Rattle.s800_layout.specs.Writing.{sample_datum_of, sample_datum, after_data}
 use Rattle.s800_writer.specs.Rows.{sample_datum_fault}
+use Rattle.event.specs.declared.refusal.Refusal.{Refusal}
+use Rattle.event.specs.Scanning.{RefusedAs}
+use Rattle.event.proofs.Answers.{Failed}
+use Rattle.s800_writer.proofs.Failures.{row_failed}
 
 ruleset tests = (arith, ltb→lt, lt→ltb, leb→le, le→leb)
 
@@ -64,9 +68,9 @@ module _ (h : SampleHead) (least : ℕ) (r : Row) where
     unfolding sample_datum_fault
     datum_taken f = row_taken (of_kind 12) sample_datum_of (sample_datum_row h) (sample_datum_checks 22 least) refl (λ a. (tt, (tt, (tt, tt)))) rs i e f
 
-    pub datum_refused : {n : ℕ} → n ≡ sample_datum_fault h least r → (n ≡ 0 → ⊥) → sample_datum h least i (drop i rs) ≡ refuse n i
+    pub datum_refused : {refused : Refusal} → Failed (sample_datum_fault h least r) i refused → RefusedAs (sample_datum h least i (drop i rs)) refused
     unfolding sample_datum_fault
-    datum_refused f z = row_refused (of_kind 12) sample_datum_of (sample_datum_row h) (sample_datum_checks 22 least) refl (λ a. (tt, (tt, (tt, tt)))) rs i e f z
+    datum_refused = row_failed (of_kind 12) sample_datum_of (sample_datum_row h) (sample_datum_checks 22 least) refl (λ a. (tt, (tt, (tt, tt)))) rs i e refl
 
 -- where the rows of kind 12 end
 after_at : (rs : List Row) (i : ℕ) → after_data (drop i rs) ≡ not (of_kind 12 (get_or rs i no_row))

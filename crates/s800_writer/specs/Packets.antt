@@ -1,30 +1,28 @@
 -- Packets as the code writes them (the contracts of private functions).
 -- Assumes nothing.
 use Rattle.std.specs.Prelude.{ℕ, suc, ◌+◌, ◌-◌, cond, ◌&&◌, List, eqb, drop}
-use Rattle.event.specs.declared.Part.{Part}
-use Rattle.event.specs.declared.Part.TheVariants.{Done, Refused}
 use Rattle.event.specs.declared.Row.{Row}
 use Rattle.event.specs.declared.StampOrder.{StampOrder}
 use Rattle.event.specs.declared.StampOrder.TheVariants.{Crossed, Rising}
 use Rattle.event.specs.Parser.{Parser, fault_in, ◌>>=◌, give}
 use Rattle.event.specs.Words.{store_word}
+use Rattle.event.specs.Refusal.{PartAnswer}
 use Rattle.event.specs.Scanning.{Writes}
 use Rattle.event.specs.Writing.{row_tests}
 use Rattle.s800_layout.specs.Event.{Form, Packet, tag, form_of, largest_id}
 use Rattle.s800_layout.specs.Layout.{packet_words, id_checks}
 use Rattle.s800_layout.specs.Writing.{of_tag, content, header_of, header_row}
 
--- the length and the tag of the packet at `at`, set when its words are counted
-abbrev pub closed : (at tag : ℕ) → Part → List ℕ → List ℕ
-closed at tag (Done next count) b = store_word 16 (store_word 16 b at (count - at)) (at + 1) tag
-closed at tag (Refused n p) b = b
+-- the length and the tag of the packet at `at`, set once its content stands before word `end`
+abbrev pub closed : (at tag end : ℕ) → List ℕ → List ℕ
+closed at tag end b = store_word 16 (store_word 16 b at (end - at)) (at + 1) tag
 
 -- a packet of this form and id, after its own row
 abbrev pub packet_after : (f : Form) (id : ℕ) → Parser Row Packet
 packet_after f id = content f id >>= λ c. give (record { form = f; content = c })
 
 -- the packet whose own row is row i, at the front of a part of the words
-abbrev pub WritesPacket : Form → ℕ → List Row → ℕ → List ℕ → Part → List ℕ → Type 0
+abbrev pub WritesPacket : Form → ℕ → List Row → ℕ → List ℕ → PartAnswer → List ℕ → Type 0
 WritesPacket f id rs i = Writes 16 packet_words (packet_after f id (i + 1) (drop (i + 1) rs)) rs 0
 
 -- how many ids the packet of a tag may have: 1 where it has none, 0 where the tag is no form's

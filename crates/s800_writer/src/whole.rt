@@ -1,33 +1,38 @@
 // An event: the stamp packet, the event number packet, the packets after them.
 ghost use Rattle.std.specs.Prelude.{◌≡◌, drop};
 ghost use Rattle.event.specs.Parser.{ended, several, each};
+ghost use Rattle.event.specs.Refusal.{verdict};
 ghost use Rattle.event.specs.Scanning.{store_words, ScannedBy, writing_all, Writes};
 ghost use Rattle.event.specs.Writing.{rows_in};
 ghost use Rattle.s800_layout.specs.Event.{stamp_tag, number_tag};
 ghost use Rattle.s800_layout.specs.Layout.{framed, stamp_words, number_words, packet_words, words as words_of};
 ghost use Rattle.s800_layout.specs.Writing.{stamp_of, stamp_packet, number_packet, packet, event_rows_up_to};
-ghost use Rattle.s800_writer.specs.Rows.{RunAt};
+ghost use Rattle.s800_format.specs.Tag.{number};
 ghost use Rattle.s800_writer.specs.Packets.{own_fault, chunk_of};
 
 use crate::packet::write_packet;
 use crate::part::close;
-use crate::row::limits_fault;
+use crate::row::check_limits;
+use crate::run::{OwnRow, Run};
+use event::kind::Kind;
+use event::refusal::{Fault, Refusal, refuse};
 use event::rows::row_at;
-use event::words::{part_start, store_word16};
-use event::{Answer, Part, Row, StampOrder, kind, refusal, refuse_part};
-use s800_format::tag;
+use event::words::{part_start, store_word};
+use event::{Part, Row, StampOrder};
+use s800_format::tag::Tag;
 
-// The refusal that the own row of a packet with this tag and no id meets, 0 for none.
-fn own_fault(row: Row, tag: u32) -> u32
-    ensures { result ≡ own_fault tag row }
+// The own row of a packet with this tag and no id.
+#[tactic(auto, unfolding(crate::specs::Packets::own_fault))]
+fn check_own(row: Row, tag: Tag, place: usize) -> Result<(), Refusal>
+    ensures { result ≡ verdict (own_fault (number tag) row) place }
 {
-    if (kind::PACKET == row.kind) & (tag == row.unit) {
+    if (row.kind == Kind::Packet.number()) & (row.unit == tag.number()) {
         if (row.channel == 0) & (row.datum == 0) {
-            return 0;
+            return Ok(());
         }
-        return refusal::FIELD;
+        return refuse(Fault::Field, place);
     }
-    refusal::KIND
+    refuse(Fault::Kind, place)
 }
 
 // Of two chunks, the one that stands there in this order.
@@ -46,91 +51,81 @@ fn store_stamp(part: &mut [u16], row: Row, order: StampOrder)
 {
     let middle_low = row.datum / 65536;
     let middle_high = row.channel % 65536;
-    store_word16(part, 2, (row.datum % 65536) as usize);
-    store_word16(part, 3, chunk(order, middle_high, middle_low) as usize);
-    store_word16(part, 4, chunk(order, middle_low, middle_high) as usize);
-    store_word16(part, 5, (row.channel / 65536) as usize);
+    store_word(part, 2, (row.datum % 65536) as usize);
+    store_word(part, 3, chunk(order, middle_high, middle_low) as usize);
+    store_word(part, 4, chunk(order, middle_low, middle_high) as usize);
+    store_word(part, 5, (row.channel / 65536) as usize);
 }
 
 // 0x5803, rows 0 and 1.
-fn write_stamp(rows: &[u32], order: StampOrder, part: &mut [u16]) -> Part
+fn write_stamp(rows: &[u32], order: StampOrder, part: &mut [u16]) -> Result<Part, Refusal>
     ensures { Writes 16 (λ s. framed stamp_tag (stamp_words s)) (stamp_packet order 0 (rows_in rows.now)) (rows_in rows.now) 0 part.old result part.new }
 {
-    let number = own_fault(row_at(rows, 0), tag::TIMESTAMP);
-    if number != 0 {
-        return refuse_part(number, 0);
-    }
+    check_own(row_at(rows, 0), Tag::Timestamp, 0)?;
     let row = row_at(rows, 1);
-    let number = limits_fault(row, kind::STAMP, 0, 0xffff_ffff, 0xffff_ffff);
-    if number != 0 {
-        return refuse_part(number, 1);
-    }
+    check_limits(row, Kind::Stamp, 0, 0xffff_ffff, 0xffff_ffff, 1)?;
     store_stamp(part, row, order);
-    close(part, 0, tag::TIMESTAMP, Part::Done { next: 2, count: 6 })
+    close(part, 0, Tag::Timestamp, 6);
+    Ok(Part { next: 2, count: 6 })
 }
 
 // 0x5804, rows 2 and 3: bits 15-0, 31-16, 47-32.
-fn write_number(rows: &[u32], part: &mut [u16]) -> Part
+fn write_number(rows: &[u32], part: &mut [u16]) -> Result<Part, Refusal>
     ensures { Writes 16 (λ k. framed number_tag (number_words k)) (number_packet 2 (drop 2 (rows_in rows.now))) (rows_in rows.now) 0 part.old result part.new }
 {
-    let number = own_fault(row_at(rows, 2), tag::EVENT_NUMBER);
-    if number != 0 {
-        return refuse_part(number, 2);
-    }
+    check_own(row_at(rows, 2), Tag::EventNumber, 2)?;
     let row = row_at(rows, 3);
-    let number = limits_fault(row, kind::EVENT_NUMBER, 0, 65535, 0xffff_ffff);
-    if number != 0 {
-        return refuse_part(number, 3);
-    }
-    store_word16(part, 2, (row.datum % 65536) as usize);
-    store_word16(part, 3, (row.datum / 65536) as usize);
-    store_word16(part, 4, row.channel as usize);
-    close(part, 0, tag::EVENT_NUMBER, Part::Done { next: 4, count: 5 })
+    check_limits(row, Kind::EventNumber, 0, 65535, 0xffff_ffff, 3)?;
+    store_word(part, 2, (row.datum % 65536) as usize);
+    store_word(part, 3, (row.datum / 65536) as usize);
+    store_word(part, 4, row.channel as usize);
+    close(part, 0, Tag::EventNumber, 5);
+    Ok(Part { next: 4, count: 5 })
 }
 
-// The packets from row `from` on, each in its part of the words, from word `first` on.
-fn write_packets(rows: &[u32], from: usize, words: &mut [u16], first: usize) -> Part
-    requires { RunAt (rows_in rows.now) from first }
-    ensures { Writes 16 (each packet_words) (several packet ended from (drop from (rows_in rows.now))) (rows_in rows.now) first words.old result words.new }
+// The packets, each in its part of the words. Where one ends shows only once it is written, so that no `for` goes over them.
+fn write_packets(run: Run, words: &mut [u16]) -> Result<Part, Refusal>
+    ensures { Writes 16 (each packet_words) (several packet ended run.entry.from (drop run.entry.from (rows_in run.entry.rows.now))) (rows_in run.entry.rows.now) run.entry.first words.old result words.new }
 {
-    let mut i = from;
-    let mut at = first;
-    while i < rows.len() / 4 {
+    let mut i = run.from;
+    let mut at = run.first;
+    while i < run.rows.len() / 4 {
         let start = part_start(at, words.len());
-        let written = write_packet(rows, i, &mut words[start..]);
-        match written {
-            Part::Refused { number, place } => {
-                return Part::Refused { number, place };
-            }
-            Part::Done { next, count } => {
-                at += count;
-                i = next;
-            }
-        }
+        let packet = write_packet(
+            OwnRow {
+                rows: run.rows,
+                at: i,
+            },
+            &mut words[start..],
+        )?;
+        at += packet.count;
+        i = packet.next;
     }
-    Part::Done { next: i, count: at }
+    Ok(Part { next: i, count: at })
 }
 
 // Writes the event as far as the words have room for it. Without room it finds the refusal, or the number of words.
-pub(crate) fn write_event(rows: &[u32], order: StampOrder, words: &mut [u16]) -> Answer
+pub(crate) fn write_event(
+    rows: &[u32],
+    order: StampOrder,
+    words: &mut [u16],
+) -> Result<usize, Refusal>
     ensures { ScannedBy (writing_all 16) words_of (event_rows_up_to order ended 0 (rows_in rows.now)) 0 words.old result words.new }
 {
     // Words 0 to 2 are the event's length, its tag and its version, 3 to 8 the stamp packet, 9 to 13 the event number packet.
-    store_word16(words, 2, s800_format::VERSION as usize);
+    store_word(words, 2, s800_format::VERSION as usize);
     let at = part_start(3, words.len());
-    let stamp = write_stamp(rows, order, &mut words[at..]);
-    if let Part::Refused { number, place } = stamp {
-        return Answer::Refused { number, place };
-    }
+    write_stamp(rows, order, &mut words[at..])?;
     let at = part_start(9, words.len());
-    let number = write_number(rows, &mut words[at..]);
-    if let Part::Refused { number, place } = number {
-        return Answer::Refused { number, place };
-    }
-    let packets = write_packets(rows, 4, words, 14);
-    let event = close(words, 0, tag::EVENT, packets);
-    match event {
-        Part::Refused { number, place } => Answer::Refused { number, place },
-        Part::Done { next: _, count } => Answer::Accepted(count),
-    }
+    write_number(rows, &mut words[at..])?;
+    let packets = write_packets(
+        Run {
+            rows,
+            from: 4,
+            first: 14,
+        },
+        words,
+    )?;
+    close(words, 0, Tag::Event, packets.count);
+    Ok(packets.count)
 }

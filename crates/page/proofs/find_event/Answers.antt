@@ -1,24 +1,21 @@
 -- `find_event` meets its contract. Assumes nothing.
-use mathlib.Core.Path.{sym, ◌∙◌}
-use native.Mathlib.Omega.{arith}
-use lib.ListN.{length}
-use borrow.Author.Tests.{lt-ltb, le-ltb, not-true, not-false}
+use mathlib.Core.Path.{◌∙◌}
+use borrow.Author.Tests.{lt-ltb, le-ltb}
+use Rattle.std.proofs.lemmas.Result.{err_from_is_err_and}
 use Rattle.page_layout.specs.Page.{finding}
-use Rattle.page_layout.proofs.SoundPages.{sound_is, same_slot}
-use Rattle.std.proofs.Common.{ap, not}
+use Rattle.page.proofs.PageLaws.{is_sound, is_unsound}
 use Rattle.page.proofs.find_event.Goals as goal
 
-pub returns-then-not-is_sound : goal.returns-then-not-is_sound
+pub returns-in_err-check_sound : goal.returns-in_err-check_sound
 unfolding finding
-returns-then-not-is_sound c = rw (sym c.is_sound.ensures ∙ not-true _ (ap not c.if-not-is_sound.true))
+returns-in_err-check_sound c =
+    let p = err_from_is_err_and c.from_residual.result c.from_residual.ensures.1 in
+    rw (p.1, p.2) (is_unsound _ _ c.in_err-check_sound.ensures _)
 
 pub returns-then-page-k : goal.returns-then-page-k
 unfolding finding
-returns-then-page-k c = rw (sym c.is_sound.ensures ∙ not-false _ (ap not c.if-not-is_sound.false), le-ltb _ _ c.if-page-k.true)
-
-pub overflow_add-result : goal.overflow_add-result
-overflow_add-result c = let s = sound_is c.args.page (length c.args.room.now) (sym c.is_sound.ensures ∙ not-false _ (ap not c.if-not-is_sound.false)) in omega (arith, c.if-page-k.false)
+returns-then-page-k c = c.refuse.ensures ∙ rw (is_sound _ _ c.in_ok-check_sound.ensures, le-ltb _ _ c.if-page-k.true)
 
 pub returns : goal.returns
 unfolding finding
-returns c = rw (sym c.is_sound.ensures ∙ not-false _ (ap not c.if-not-is_sound.false), lt-ltb _ _ c.if-page-k.false, same_slot c.args.page c.args.k)
+returns c = rw (is_sound _ _ c.in_ok-check_sound.ensures, lt-ltb _ _ c.if-page-k.false, c.slot.ensures)

@@ -1,23 +1,19 @@
 -- `rows::count` meets its contract. Assumes nothing.
-use mathlib.Core.Path.{sym, ◌∙◌}
-use Rattle.event.specs.Writing.{is_same_row, no_row}
+use mathlib.Core.Path.{refl, sym, ◌∙◌}
+use Prim.Native.Nat.{min}
+use lib.ListN.{length}
+use native.Mathlib.Omega.{arith}
+use Rattle.std.proofs.Common.{rules}
+use Rattle.std.proofs.lemmas.Iterator.{YieldsList-from_range}
+use Rattle.std.proofs.lemmas.Iterator.Consumers.{count_from_yields_List, YieldsList-from_filter, YieldsList-at}
+use Rattle.event.specs.Writing.{rows_in, is_same_row, no_row}
 use Rattle.event.proofs.RowsIn.{rows_count}
-use Rattle.compare.proofs.Loops.{count_start, count_same, count_more, count_done}
+use Rattle.compare.proofs.Loops.{apart_at, counted_at}
 use Rattle.compare.proofs.rows.count.Goals as goal
-use Rattle.compare.proofs.rows.count.Goals.{then-not-same, else-not-same}
-
-pub loop-i-init : goal.loop-i-init
-loop-i-init c = count_start is_same_row _ _ _ (rw (rows_count, rows_count) c.shared-n.ensures)
-
-pub loop-i-preserved : goal.loop-i-preserved
-loop-i-preserved c =
-    let l = c.loop-i.invariant in
-    let h = c.loop-i-test.true in
-    let e = rw (c.row_at.ensures, c.row_at-in-loop-i.ensures) at c.same_row-same.ensures in
-    elim c.if-not-same.branch [
-      | then-not-same w ↦ rw w.found-is (count_more l no_row h (sym e ∙ w.if-not-same.true))
-      | else-not-same w ↦ rw w.found-is (count_same l no_row h (sym e ∙ w.if-not-same.false))
-    ]
 
 pub returns : goal.returns
-returns c = count_done c.loop-i.invariant c.loop-i-test.false
+returns c =
+    let a = rows_in c.args.first.now in
+    let b = rows_in c.args.second.now in
+    count_from_yields_List _ _ c.count.ensures.ran
+    (YieldsList-from_filter _ (apart_at is_same_row a b no_row) (YieldsList-at c.filter.ensures.source (YieldsList-from_range 0 _ (min (length a) (length b)) refl (rw (rows_count, rows_count) (omega (arith, c.min-shared.ensures))))) c.filter.ensures.closure (λ x r q k. search rules)) ∙ sym (counted_at is_same_row a b no_row (min (length a) (length b)) 0 (omega arith))

@@ -1,36 +1,41 @@
 -- `rows::fill` meets its contract. Assumes nothing.
+use Prim.Native.Nat.{◌<◌, ◌≤◌, min}
 use native.Mathlib.Omega.{arith}
 use mathlib.Core.Path.{refl, sym, ◌∙◌}
-use Rattle.event.specs.Rows.{flat_row}
-use Rattle.event.specs.Writing.{is_same_row, no_row}
+use lib.ListN.{length}
+use Rattle.event.specs.Writing.{rows_in, is_same_row, no_row}
 use Rattle.event.proofs.RowsIn.{rows_count}
-use Rattle.compare.proofs.Loops.{fill_start, fill_same, fill_room, fill_more, fill_done}
+use Rattle.compare.proofs.Loops.{from_apart, from_same, from_end, fill_room, fill_more, fill_done}
 use Rattle.compare.proofs.rows.fill.Goals as goal
-use Rattle.compare.proofs.rows.fill.Goals.{then-not-same, else-not-same}
-
-pub loop-i-init : goal.loop-i-init
-loop-i-init c = fill_start flat_row 9 is_same_row _ _ _ _ (rw (rows_count, rows_count) c.shared-n.ensures)
-
-pub overflow_cast-i : goal.overflow_cast-i
-overflow_cast-i c = omega (arith, c.loop-i.invariant.counting.shared, c.loop-i-test.true, rows_count c.args.a.now, c.requires.1)
+use Rattle.compare.proofs.rows.fill.Goals.{then-ne, else-ne}
 
 pub put_rows-requires : goal.put_rows-requires
 put_rows-requires c =
-    let l = c.loop-i.invariant in
-    let e = rw (c.row_at-r.ensures, c.row_at-s.ensures) at c.same_row-same.ensures in
-    omega (arith, fill_room l no_row c.loop-i-test.true (sym e ∙ c.if-not-same.true), l.size, c.requires.0)
+    let a = rows_in c.args.first.now in
+    let b = rows_in c.args.second.now in
+    let inside : c.loop-i.i < min (length a) (length b) = rw (rows_count, rows_count) (omega arith) in
+    let next = from_apart is_same_row a b no_row inside (rw (c.row_at-r.ensures, c.row_at-s.ensures) at (sym c.ne.ensures ∙ c.if-ne.true)) in
+    omega (arith, fill_room (rw next at c.loop-i.invariant), c.loop-i.invariant.size, c.requires.0)
 
 pub loop-i-preserved : goal.loop-i-preserved
 loop-i-preserved c =
-    let l = c.loop-i.invariant in
-    let h = c.loop-i-test.true in
+    let a = rows_in c.args.first.now in
+    let b = rows_in c.args.second.now in
+    let inside : c.loop-i.i < min (length a) (length b) = rw (rows_count, rows_count) (omega arith) in
     let x = c.row_at-r.ensures in
     let y = c.row_at-s.ensures in
-    let e = rw (x, y) at c.same_row-same.ensures in
-    elim c.if-not-same.branch [
-      | then-not-same w ↦ rw (w.list-is, w.found-is) (fill_more l no_row h (sym e ∙ w.if-not-same.true) refl (omega arith) (rw (x, y) at w.put_rows.ensures))
-      | else-not-same w ↦ rw (w.list-is, w.found-is) (fill_same l no_row h (sym e ∙ w.if-not-same.false))
+    elim c.if-ne.branch [
+      | then-ne w ↦
+          let next = from_apart is_same_row a b no_row inside (rw (x, y) at (sym c.ne.ensures ∙ w.if-ne.true)) in
+          rw (w.list-is, w.found-is) (fill_more (rw next at c.loop-i.invariant) refl (omega arith) (rw (x, y) at w.put_rows.ensures))
+      | else-ne w ↦
+          let next = from_same is_same_row a b no_row inside (rw (x, y) at (sym c.ne.ensures ∙ w.if-ne.false)) in
+          rw (w.list-is, w.found-is) (rw next at c.loop-i.invariant)
     ]
 
 pub returns : goal.returns
-returns c = fill_done c.loop-i.invariant c.loop-i-test.false (λ d. refl) c.requires.0
+returns c =
+    let a = rows_in c.args.first.now in
+    let b = rows_in c.args.second.now in
+    let past : min (length a) (length b) ≤ c.loop-i.i = rw (rows_count, rows_count) (omega (arith, c.min-shared.ensures)) in
+    fill_done (rw (from_end is_same_row a b c.loop-i.i past) at c.loop-i.invariant) (λ d. refl) c.requires.0

@@ -1,42 +1,43 @@
 -- `module::write_values` meets its contract. Assumes nothing.
 use native.Mathlib.Omega.{arith}
-use mathlib.Core.Path.{sym, ◌∙◌}
+use Rattle.event.proofs.Answers.{passed_test}
+use Rattle.event.proofs.ChannelLaws.{blocked_none}
+use Rattle.event.proofs.CountedRows.{counted_begin}
 use Rattle.event.proofs.RowsIn.{rows_count}
 use Rattle.frs_writer.proofs.RowFaults.{value_fields}
-use Rattle.frs_writer.proofs.Values.{values_begin, values_next, values_done, value_refused}
+use Rattle.frs_writer.proofs.Values.{values_done, value_refused, value_taken}
+use Rattle.std.proofs.lemmas.Result.{err_from_is_err_and}
 use Rattle.frs_writer.proofs.module.write_values.Goals as goal
 
 pub loop-k-init : goal.loop-k-init
-loop-k-init c = (values_begin c.requires.0 c.requires.1, c.requires.2)
+loop-k-init c = counted_begin blocked_none c.requires.1 (omega (arith, c.requires.0))
 
 pub overflow_add-first : goal.overflow_add-first
-overflow_add-first c = omega (arith, c.loop-k.invariant.0.reached.inside, rows_count c.args.rows.now)
+overflow_add-first c = omega (arith, c.loop-k.invariant.reached.inside, rows_count c.args.rows.now)
 
-pub overflow_add-first-then-number-ne0 : goal.overflow_add-first-then-number-ne0
-overflow_add-first-then-number-ne0 c = omega (arith, c.loop-k.invariant.0.reached.inside, rows_count c.args.rows.now)
+pub overflow_add-first-in-loop-k : goal.overflow_add-first-in-loop-k
+overflow_add-first-in-loop-k c = omega (arith, c.loop-k.invariant.reached.inside, rows_count c.args.rows.now)
 
-pub returns-then-number-ne0 : goal.returns-then-number-ne0
-returns-then-number-ne0 c = value_refused _ c.loop-k.invariant.0.reached (omega (arith, c.loop-k-test.true)) c.row_at-row.ensures _ c.value_fault-number.ensures c.if-number-ne0.true
-    c.refuse_part.ensures
+pub returns-in_err-check_value : goal.returns-in_err-check_value
+returns-in_err-check_value c =
+    let p = err_from_is_err_and c.from_residual.result c.from_residual.ensures.1 in
+    rw (p.1, p.2) (value_refused _ c.loop-k.invariant c.loop-k-test.true c.row_at-row.ensures _ c.in_err-check_value.ensures)
 
 pub overflow_mul-row : goal.overflow_mul-row
-overflow_mul-row c = omega (arith, value_fields _ _ _ (sym c.if-number-ne0.false ∙ c.value_fault-number.ensures))
+overflow_mul-row c = omega (arith, value_fields _ _ _ (passed_test _ _ c.in_ok-check_value.ensures))
 
 pub overflow_add-row : goal.overflow_add-row
-overflow_add-row c = omega (arith, value_fields _ _ _ (sym c.if-number-ne0.false ∙ c.value_fault-number.ensures))
+overflow_add-row c = omega (arith, value_fields _ _ _ (passed_test _ _ c.in_ok-check_value.ensures))
 
-pub longword-word-requires : goal.longword-word-requires
-longword-word-requires c = (c.loop-k.invariant.1, omega arith, omega (arith, value_fields _ _ _ (sym c.if-number-ne0.false ∙ c.value_fault-number.ensures)))
+pub longword-requires : goal.longword-requires
+longword-requires c = (c.requires.2, omega arith, omega (arith, value_fields _ _ _ (passed_test _ _ c.in_ok-check_value.ensures)))
 
 pub loop-k-preserved : goal.loop-k-preserved
-loop-k-preserved c = (
-  values_next _ c.loop-k.invariant.0 c.loop-k-test.true c.row_at-row.ensures (sym c.if-number-ne0.false ∙ c.value_fault-number.ensures) c.longword-word.ensures
-      c.store_word32.ensures c.with_channel-seen.ensures c.store_word32.auto.words,
-  c.loop-k.invariant.1,
-)
+loop-k-preserved c = value_taken _ c.loop-k.invariant c.loop-k-test.true c.row_at-row.ensures c.in_ok-check_value.ensures c.longword.ensures c.store.ensures c.with_channel-seen.ensures
+    c.store.auto.words
 
 pub overflow_add-result : goal.overflow_add-result
-overflow_add-result c = omega (arith, c.loop-k.invariant.0.reached.inside, rows_count c.args.rows.now)
+overflow_add-result c = omega (arith, c.loop-k.invariant.reached.inside, c.loop-k-test.false, rows_count c.args.rows.now)
 
 pub returns : goal.returns
-returns c = values_done _ c.loop-k.invariant.0.reached (omega (arith, c.loop-k-test.false))
+returns c = values_done _ c.loop-k.invariant (omega (arith, c.loop-k-test.false, c.loop-k.invariant.most))

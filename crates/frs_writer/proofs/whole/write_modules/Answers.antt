@@ -2,23 +2,25 @@
 use native.Mathlib.Omega.{arith}
 use Rattle.event.proofs.RowsIn.{rows_count}
 use Rattle.frs_writer.proofs.Modules.{modules_done, module_refused, module_within, module_taken}
+use Rattle.std.proofs.lemmas.Result.{err_from_is_err_and}
 use Rattle.frs_writer.proofs.whole.write_modules.Goals as goal
 
-pub returns-in_default : goal.returns-in_default
-returns-in_default c = module_refused c.loop-i.invariant (omega (arith, c.loop-i-test.true, rows_count c.args.rows.now)) c.part_start-start.ensures c.write_module-written.ensures _
-    c.in_default.is c.in_default.is
+pub returns-in_err-module : goal.returns-in_err-module
+returns-in_err-module c =
+    let p = err_from_is_err_and c.from_residual.result c.from_residual.ensures.1 in
+    rw (p.1, p.2) (module_refused {written = c.loop-written.written} c.loop-written.invariant (omega (arith, c.loop-written-test.true, rows_count c.args.rows.now)) c.part_start-start.ensures _ c.in_err-module.ensures)
 
-pub overflow_add-at : goal.overflow_add-at
-overflow_add-at c = let f = module_within c.loop-i.invariant (omega (arith, c.loop-i-test.true, rows_count c.args.rows.now)) c.part_start-start.ensures c.write_module-written.ensures
-    c.in-Done.is in omega (arith, f, rows_count c.args.rows.now)
+pub overflow_add-written : goal.overflow_add-written
+overflow_add-written c = let f = module_within {written = c.loop-written.written} c.loop-written.invariant (omega (arith, c.loop-written-test.true, rows_count c.args.rows.now)) c.part_start-start.ensures
+    c.in_ok-module.ensures in omega (arith, f, rows_count c.args.rows.now)
 
-pub loop-i-smaller : goal.loop-i-smaller
-loop-i-smaller c = let f = module_within c.loop-i.invariant (omega (arith, c.loop-i-test.true, rows_count c.args.rows.now)) c.part_start-start.ensures c.write_module-written.ensures
-    c.in-Done.is in omega (arith, f)
+pub loop-written-smaller : goal.loop-written-smaller
+loop-written-smaller c = let f = module_within {written = c.loop-written.written} c.loop-written.invariant (omega (arith, c.loop-written-test.true, rows_count c.args.rows.now)) c.part_start-start.ensures
+    c.in_ok-module.ensures in omega (arith, f)
 
-pub loop-i-preserved : goal.loop-i-preserved
-loop-i-preserved c = module_taken c.loop-i.invariant (omega (arith, c.loop-i-test.true, rows_count c.args.rows.now)) c.part_start-start.ensures c.write_module-written.ensures c.in-Done.is
-    c.row_at-row.ensures c.with_channel-seen.ensures
+pub loop-written-preserved : goal.loop-written-preserved
+loop-written-preserved c = module_taken {written = c.loop-written.written} c.loop-written.invariant (omega (arith, c.loop-written-test.true, rows_count c.args.rows.now)) c.part_start-start.ensures
+    c.in_ok-module.ensures c.row_at-row.ensures c.with_channel-seen.ensures
 
 pub returns : goal.returns
-returns c = modules_done c.loop-i.invariant (omega (arith, c.loop-i-test.false, rows_count c.args.rows.now))
+returns c = modules_done {written = c.loop-written.written} c.loop-written.invariant (omega (arith, c.loop-written-test.false, rows_count c.args.rows.now))

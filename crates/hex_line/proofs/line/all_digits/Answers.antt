@@ -1,22 +1,14 @@
--- `line::all_digits` meets its contract. The invariant: what is left to test decides the whole test. Assumes nothing.
-use mathlib.Core.Path.{sym, ◌∙◌}
-use borrow.Author.Rules.{rules}
-use borrow.Author.Tests.{not-true, not-false}
-use Rattle.hex_line.proofs.LineLaws.{digits_none, digits_no, digits_yes}
-use Rattle.std.proofs.Common.{ap, not}
+-- `line::all_digits` meets its contract. Assumes nothing.
+use mathlib.Core.Path.{refl, ◌∙◌}
+use native.Mathlib.Omega.{arith}
+use Rattle.std.proofs.Common.{rules, tests}
+use Rattle.std.proofs.lemmas.Iterator.{YieldsList-from_slice}
+use Rattle.std.proofs.lemmas.Iterator.Search.{all_from_yields_List}
+use Rattle.hex_line.specs.Line.{is_digit}
+use Rattle.hex_line.proofs.LineLaws.{digits_listed}
 use Rattle.hex_line.proofs.line.all_digits.Goals as goal
 
-pub loop-left-preserved : goal.loop-left-preserved
-loop-left-preserved c = (
-  search rules,
-  c.loop-left.invariant.1
-      ∙ digits_yes _ _ _ (search rules) (sym c.is_digit.ensures ∙ not-false _ (ap not c.if-not-is_digit.false)),
-)
-
-pub returns-then-not-is_digit : goal.returns-then-not-is_digit
-returns-then-not-is_digit c =
-    sym (c.loop-left.invariant.1
-    ∙ digits_no _ _ _ (search rules) (sym c.is_digit.ensures ∙ not-true _ (ap not c.if-not-is_digit.true)))
-
 pub returns : goal.returns
-returns c = sym (c.loop-left.invariant.1 ∙ digits_none _ _ _ (search rules))
+returns c =
+    all_from_yields_List is_digit _ _ c.all.result c.all.ensures.ran (YieldsList-from_slice c.iter.result.rest.now refl) (λ x b q k. search (rules, tests))
+    ∙ rw c.iter.ensures.rest (digits_listed c.args.line.now c.args.at c.args.count _ (omega arith) (omega (arith, c.requires)))

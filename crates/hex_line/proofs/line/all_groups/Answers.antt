@@ -1,30 +1,22 @@
 -- `line::all_groups` meets its contract. The invariant: what is left to test decides the whole test. Assumes nothing.
-use Prim.Native.Nat.{◌+◌, ◌-◌, ◌*◌}
-use mathlib.Core.Path.{◌≡◌, sym, ◌∙◌}
-use native.Mathlib.Omega.{arith}
-use borrow.Author.Rules.{rules}
-use borrow.Author.Tests.{not-true, not-false, eq-eqb, ne_eqb}
-use Rattle.hex_line.proofs.LineLaws.{product_first, groups_none, groups_no_space, groups_no_digit, groups_yes}
-use Rattle.std.proofs.Common.{ap, not}
+use mathlib.Core.Path.{sym, ◌∙◌}
+use Rattle.hex_line.proofs.LineLaws.{left_first, left_no_space, left_no_digits, left_next, left_none}
 use Rattle.hex_line.proofs.line.all_groups.Goals as goal
+use Rattle.hex_line.proofs.line.all_groups.Goals.{then-line-group-ne32-via-then-line-group-ne32, then-line-group-ne32-via-else-line-group-ne32+then-not-all_digits}
 
-pub loop-left-preserved : goal.loop-left-preserved
-loop-left-preserved c =
-    let fits : (c.args.digits + 1) * c.loop-left.left ≡ (c.args.digits + 1) + (c.args.digits + 1) * (c.loop-left.left - 1) = product_first _ _ (search rules) in (
-      omega (arith, fits),
-      c.loop-left.invariant.1
-          ∙ groups_yes _ _ _ _ (search rules) (eq-eqb _ _ c.if-line-next-ne32.false)
-          (sym c.all_digits.ensures ∙ not-false _ (ap not c.if-not-all_digits.false)),
-    )
+pub loop-i-init : goal.loop-i-init
+loop-i-init c = left_first _ _ _ _
 
-pub returns-then-line-next-ne32 : goal.returns-then-line-next-ne32
-returns-then-line-next-ne32 c = sym (c.loop-left.invariant.1 ∙ groups_no_space _ _ _ _ (search rules) (ne_eqb _ _ c.if-line-next-ne32.true))
+pub loop-i-preserved : goal.loop-i-preserved
+loop-i-preserved c = left_next _ _ _ _ c.loop-i.invariant c.loop-i-test.true c.if-line-group-ne32.false (sym c.all_digits.ensures ∙ c.if-not-all_digits.false)
 
-pub returns-then-not-all_digits : goal.returns-then-not-all_digits
-returns-then-not-all_digits c =
-    sym (c.loop-left.invariant.1
-    ∙ groups_no_digit _ _ _ _ (search rules) (eq-eqb _ _ c.if-line-next-ne32.false)
-    (sym c.all_digits.ensures ∙ not-true _ (ap not c.if-not-all_digits.true)))
+pub returns-then-line-group-ne32 : goal.returns-then-line-group-ne32
+returns-then-line-group-ne32 c =
+    elim c.then-line-group-ne32.branch [
+      | then-line-group-ne32-via-then-line-group-ne32 w ↦ left_no_space _ _ _ _ c.loop-i.invariant c.loop-i-test.true w.if-line-group-ne32.true
+      | then-line-group-ne32-via-else-line-group-ne32+then-not-all_digits w ↦
+          left_no_digits _ _ _ _ c.loop-i.invariant c.loop-i-test.true w.if-line-group-ne32.false (sym w.all_digits.ensures ∙ w.if-not-all_digits.true)
+    ]
 
 pub returns : goal.returns
-returns c = sym (c.loop-left.invariant.1 ∙ groups_none _ _ _ _ (search rules))
+returns c = left_none _ _ _ _ c.loop-i.invariant c.loop-i-test.false

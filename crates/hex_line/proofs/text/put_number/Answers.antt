@@ -1,17 +1,11 @@
 -- `text::put_number` meets its contract. Assumes nothing.
-use Prim.Native.Nat.{◌+◌, ◌≤◌}
-use mathlib.Core.Path.{refl, sym, ◌∙◌}
-use lib.ListN.{length}
-use borrow.Author.Tests.{leb-true, leb-false, not-true, not-false}
+use mathlib.Core.Path.{refl}
 use Rattle.hex_line.proofs.TextLaws.{hex_length, put_whole, put_none}
-use Rattle.std.proofs.Common.{ap, not}
 use Rattle.hex_line.proofs.text.put_number.Goals as goal
 
 pub returns-then-not-has_room : goal.returns-then-not-has_room
-returns-then-not-has_room c =
-    let both = put_none _ _ _ (hex_length 8 _) (leb-false _ _ (sym c.has_room.ensures ∙ not-true _ (ap not c.if-not-has_room.true))) in record { end = both.0; buffer = both.1 }
+returns-then-not-has_room c = let both = put_none _ _ _ (hex_length 8 _) c.has_room.ensures c.if-not-has_room.true in record { end = both.0; buffer = both.1 }
 
 pub returns : goal.returns
 returns c =
-    let room : c.args.at + 8 ≤ length c.args.buffer.now = leb-true _ _ (sym c.has_room.ensures ∙ not-false _ (ap not c.if-not-has_room.false)) in
-    let both = put_whole _ _ _ (hex_length 8 _) room refl c.store_digits.ensures in record { end = both.0; buffer = both.1 }
+    let both = put_whole _ _ _ (hex_length 8 _) c.has_room.ensures c.if-not-has_room.false refl c.store_digits.ensures in record { end = both.0; buffer = both.1 }

@@ -1,5 +1,4 @@
 -- `plane` meets its contract. Assumes nothing.
-use Prim.Native.Nat.{◌-◌, ◌≤◌}
 use mathlib.Core.Path.{◌≡◌}
 use lib.ListN.{length}
 use Rattle.page_layout.specs.Plane.{table, counted}
@@ -7,7 +6,4 @@ use Rattle.page_layout.specs.Page.{event_at}
 use Rattle.page.proofs.hits.plane.Given as goal
 
 abbrev pub invariant-loop-k : goal.invariant-loop-k
-invariant-loop-k l = (l.k ≤ l.count) × (l.plane ≡ counted (table l.k (event_at l.page l.room))) × (length l.rows ≡ 4096)
-
-abbrev pub decreases-loop-k : goal.decreases-loop-k
-decreases-loop-k l = l.count - l.k
+invariant-loop-k l = (l.plane ≡ counted (table l.k (event_at l.page l.room))) × (length l.rows ≡ 4096)

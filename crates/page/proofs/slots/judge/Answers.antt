@@ -1,36 +1,36 @@
 -- `judge` meets its contract. Assumes nothing.
-use mathlib.Core.Path.{sym, ap, ◌∙◌}
-use borrow.Author.Tests.{not-true, not-false}
+use mathlib.Core.Path.{ap, ◌∙◌}
+use native.Mathlib.Omega.{arith}
+use Rattle.std.proofs.lemmas.Result.{err_from_is_err_and}
 use Rattle.event.specs.declared.StampOrder.{StampOrder}
 use Rattle.event.specs.Outcome.{answer_of}
 use Rattle.s800_layout.specs.Reading.{reading}
-use Rattle.page.proofs.PageLaws.{add_unsound, add_refused, add_long, add_more, add_full}
-use Rattle.std.proofs.Common.{not}
+use Rattle.page_layout.proofs.SoundPages.{sound_is}
+use Rattle.page.proofs.PageLaws.{is_sound, add_unsound, add_refused, add_long, add_held}
 use Rattle.page.proofs.slots.judge.Goals as goal
 
-pub returns-then-not-is_sound : goal.returns-then-not-is_sound
-returns-then-not-is_sound c = add_unsound _ _ _ (sym c.is_sound.ensures ∙ not-true _ (ap not c.if-not-is_sound.true))
+pub returns-in_err-check_sound : goal.returns-in_err-check_sound
+returns-in_err-check_sound c =
+    let p = err_from_is_err_and c.from_residual.result c.from_residual.ensures.1 in
+    rw (p.1, p.2) (add_unsound _ _ _ c.in_err-check_sound.ensures)
 
-pub returns-in_default : goal.returns-in_default
-returns-in_default c =
-    let s = sym c.is_sound.ensures ∙ not-false _ (ap not c.if-not-is_sound.false) in
-    let e = c.check-checked.ensures ∙ ap (λ (o : StampOrder). answer_of (reading o c.args.words.now)) c.default_order.ensures in
-    add_refused c.args.page c.args.words.now c.args.room s _ e c.in_default.is
+pub returns-in_err-check : goal.returns-in_err-check
+returns-in_err-check c =
+    let p = err_from_is_err_and c.from_residual-in_err-check.result c.from_residual-in_err-check.ensures.1 in
+    let s = is_sound _ _ c.in_ok-check_sound.ensures in
+    rw (p.1, p.2) (add_refused c.args.page.now c.args.words.now c.args.room s (c.in_err-check.ensures ∙ ap (λ (o : StampOrder). answer_of (reading o c.args.words.now)) c.default.ensures))
 
-pub returns-then-size-gt-WORDS : goal.returns-then-size-gt-WORDS
-returns-then-size-gt-WORDS c =
-    let s = sym c.is_sound.ensures ∙ not-false _ (ap not c.if-not-is_sound.false) in
-    let e = c.check-checked.ensures ∙ ap (λ (o : StampOrder). answer_of (reading o c.args.words.now)) c.default_order.ensures in
-    add_long c.args.page c.args.words.now c.args.room s _ e c.in-Accepted.is c.if-size-gt-WORDS.true
+pub returns-then-words-gt-WORDS : goal.returns-then-words-gt-WORDS
+returns-then-words-gt-WORDS c =
+    let s = is_sound _ _ c.in_ok-check_sound.ensures in
+    let e = c.in_ok-check.ensures ∙ ap (λ (o : StampOrder). answer_of (reading o c.args.words.now)) c.default.ensures in
+    c.refuse.ensures ∙ add_long c.args.page.now c.args.words.now c.args.room s e c.if-words-gt-WORDS.true
 
-pub returns-then-count-lt-EVENTS : goal.returns-then-count-lt-EVENTS
-returns-then-count-lt-EVENTS c =
-    let s = sym c.is_sound.ensures ∙ not-false _ (ap not c.if-not-is_sound.false) in
-    let e = c.check-checked.ensures ∙ ap (λ (o : StampOrder). answer_of (reading o c.args.words.now)) c.default_order.ensures in
-    add_more c.args.page c.args.words.now c.args.room s _ e c.in-Accepted.is c.if-size-gt-WORDS.false c.if-count-lt-EVENTS.true
+pub overflow_add-page : goal.overflow_add-page
+overflow_add-page c = let s = sound_is _ _ (is_sound _ _ c.in_ok-check_sound.ensures) in omega (arith, s.count)
 
 pub returns : goal.returns
 returns c =
-    let s = sym c.is_sound.ensures ∙ not-false _ (ap not c.if-not-is_sound.false) in
-    let e = c.check-checked.ensures ∙ ap (λ (o : StampOrder). answer_of (reading o c.args.words.now)) c.default_order.ensures in
-    add_full c.args.page c.args.words.now c.args.room s _ e c.in-Accepted.is c.if-size-gt-WORDS.false c.if-count-lt-EVENTS.false
+    let s = is_sound _ _ c.in_ok-check_sound.ensures in
+    let e = c.in_ok-check.ensures ∙ ap (λ (o : StampOrder). answer_of (reading o c.args.words.now)) c.default.ensures in
+    rw c.min.ensures (add_held c.args.page.now c.args.words.now c.args.room s e c.if-words-gt-WORDS.false)

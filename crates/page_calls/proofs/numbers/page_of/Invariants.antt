@@ -1,5 +1,5 @@
 -- `page_of` meets its contract. Assumes nothing.
-use Prim.Native.Nat.{ℕ, ◌+◌, ◌-◌, ◌≤◌}
+use Prim.Native.Nat.{ℕ, ◌+◌}
 use mathlib.Core.List.{List}
 use lib.ListN.{get_or}
 use Rattle.page_layout.proofs.FilledTables.{Filled}
@@ -10,7 +10,4 @@ abbrev pub stored : List ℕ → ℕ → ℕ
 stored numbers k = get_or numbers (2 + k) 0
 
 abbrev pub invariant-loop-k : goal.invariant-loop-k
-invariant-loop-k l = (l.k ≤ 64) × Filled 64 (stored l.numbers) l.k l.lengths
-
-abbrev pub decreases-loop-k : goal.decreases-loop-k
-decreases-loop-k l = 64 - l.k
+invariant-loop-k l = Filled 64 (stored l.numbers) l.k l.lengths

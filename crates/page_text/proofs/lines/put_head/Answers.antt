@@ -16,5 +16,5 @@ returns c =
     let t = c.put_text.ensures in
     let p = placed (h.end, h.buffer) (simp field_length (omega (arith, c.requires, l))) in
     let q = placed_put p _ (m.end, m.buffer) (simp (length-append, field_length) (omega (arith, c.requires, l))) in
-    let r = placed_put q _ (e.end, e.buffer) (simp (length-append, field_length) (omega (arith, c.requires, l))) in
+    let r = placed_put q _ (rw c.from.ensures at e.end, rw c.from.ensures at e.buffer) (simp (length-append, field_length) (omega (arith, c.requires, l))) in
     placed_put r _ (t.end, t.buffer) (simp (length-append, field_length) (omega (arith, c.requires, l)))

@@ -1,8 +1,6 @@
 -- `picture::put_marks` meets its contract. Assumes nothing.
-use Prim.Native.Nat.{ℕ, ◌+◌, ◌-◌, ◌≤◌}
-use mathlib.Core.Path.{◌≡◌}
+use Prim.Native.Nat.{ℕ, ◌+◌}
 use mathlib.Core.List.{List}
-use lib.ListN.{length}
 use Rattle.hex_line.specs.Text.{texts_below, Placed}
 use Rattle.page_text.specs.Text.{count_of, mark}
 use Rattle.page_text.proofs.picture.put_marks.Given as goal
@@ -12,9 +10,4 @@ abbrev pub mark_of : (counts : List ℕ) (connector least channel : ℕ) → Lis
 mark_of counts connector least channel = mark least (count_of counts connector channel)
 
 abbrev pub invariant-loop-channel : goal.invariant-loop-channel
-invariant-loop-channel l =
-    (l.channel ≤ 64) × (length l.text ≡ length l.initial.text)
-    × Placed l.initial.text l.at (texts_below l.channel (mark_of l.counts l.connector l.least)) (l.at + l.channel) l.text
-
-abbrev pub decreases-loop-channel : goal.decreases-loop-channel
-decreases-loop-channel l = 64 - l.channel
+invariant-loop-channel l = Placed l.initial.text l.at (texts_below l.channel (mark_of l.connector.counts.now l.connector.number l.least)) (l.at + l.channel) l.text

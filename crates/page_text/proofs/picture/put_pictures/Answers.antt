@@ -1,30 +1,25 @@
 -- `picture::put_pictures` meets its contract. Assumes nothing.
-use mathlib.Core.Path.{◌≡◌, refl, ◌∙◌}
+use mathlib.Core.Path.{◌≡◌}
 use native.Mathlib.Omega.{arith}
-use borrow.Author.Rules.{rules}
 use Rattle.hex_line.proofs.TextLaws.{placed_first, placed_next}
 use Rattle.page_text.specs.Text.{picture_text, pictures_text}
 use Rattle.page_text.proofs.PageLaws.{room_next, picture_length}
 use Rattle.page_text.proofs.picture.put_pictures.Goals as goal
 
-pub loop-connector-init : goal.loop-connector-init
-loop-connector-init c = (search rules, refl, placed_first _)
+pub loop-number-init : goal.loop-number-init
+loop-number-init c = placed_first _
 
 pub put_picture-end-requires : goal.put_picture-end-requires
 unfolding pictures_text
 put_picture-end-requires c =
     let counts = c.args.counts.now in
-    let most = c.args.most in
-    let room = room_next c.loop-connector.connector (picture_text counts most) (picture_length counts most) c.loop-connector-test.true c.requires.1 c.loop-connector.invariant.2 in
-    (search rules, c.requires.0, rw picture_length (omega (arith, room, picture_length counts most c.loop-connector.connector)))
+    room_next c.loop-number.number (picture_text counts c.args.most) (picture_length counts c.args.most) c.loop-number-test.true c.requires c.loop-number.invariant
 
-pub loop-connector-preserved : goal.loop-connector-preserved
-loop-connector-preserved c =
-    let a = c.args in
-    (search rules, c.put_picture-end.auto.text ∙ c.loop-connector.invariant.1, placed_next _ (picture_text a.counts.now a.most) c.loop-connector.invariant.2 c.put_picture-end.ensures)
+pub loop-number-preserved : goal.loop-number-preserved
+loop-number-preserved c = placed_next _ (picture_text c.args.counts.now c.args.most) c.loop-number.invariant c.put_picture-end.ensures
 
 pub returns : goal.returns
 unfolding pictures_text
 returns c =
-    let all : c.loop-connector.connector ≡ 4 = omega arith in
-    rw all at c.loop-connector.invariant.2
+    let all : c.loop-number.number ≡ 4 = omega arith in
+    rw all at c.loop-number.invariant

@@ -13,22 +13,22 @@ pub put_marks-end-requires : goal.put_marks-end-requires
 put_marks-end-requires c =
     let a = c.args in
     -- there is room for the whole row
-    let room : a.at + 76 ≤ length a.text.now = omega (arith, c.requires.2, row_length_lem a.counts.now a.connector a.least) in
+    let room : a.at + 76 ≤ length a.text.now = omega (arith, c.requires, row_length_lem a.connector.now.counts.now a.connector.now.number a.least) in
     -- what stands before the marks
     let p = placed (c.put_number-bar.ensures.end, c.put_number-bar.ensures.buffer) (simp hex_length (omega (arith, room))) in
     let b : Placed a.text.now a.at (hex_of 8 a.least ++ text " |") c.put_text-marks.result c.put_text-marks.new.buffer =
     placed_put p _ (c.put_text-marks.ensures.end, c.put_text-marks.ensures.buffer) (simp (length-append, hex_length) (omega (arith, room))) in
     let ends = simp (length-append, hex_length) at b.ends in
-    (c.requires.0, c.requires.1, omega (arith, marks_length a.counts.now a.connector a.least, ends, room, placed_size b))
+    omega (arith, marks_length a.connector.now.counts.now a.connector.now.number a.least, ends, room, placed_size b)
 
 pub returns : goal.returns
 unfolding row_text
 returns c =
     let a = c.args in
-    let room : a.at + 76 ≤ length a.text.now = omega (arith, c.requires.2, row_length_lem a.counts.now a.connector a.least) in
+    let room : a.at + 76 ≤ length a.text.now = omega (arith, c.requires, row_length_lem a.connector.now.counts.now a.connector.now.number a.least) in
     let p = placed (c.put_number-bar.ensures.end, c.put_number-bar.ensures.buffer) (simp hex_length (omega (arith, room))) in
     let b : Placed a.text.now a.at (hex_of 8 a.least ++ text " |") c.put_text-marks.result c.put_text-marks.new.buffer =
     placed_put p _ (c.put_text-marks.ensures.end, c.put_text-marks.ensures.buffer) (simp (length-append, hex_length) (omega (arith, room))) in
-    let l = marks_length a.counts.now a.connector a.least in
+    let l = marks_length a.connector.now.counts.now a.connector.now.number a.least in
     placed_put (placed_then b c.put_marks-end.ensures) _ (c.put_text.ensures.end, c.put_text.ensures.buffer)
     (simp (length-append, hex_length, l) (omega (arith, room)))

@@ -1,9 +1,8 @@
 -- `picture::put_rows` meets its contract. Assumes nothing.
 use Prim.Native.Nat.{ℕ, ◌-◌}
-use mathlib.Core.Path.{◌≡◌, refl, ◌∙◌}
+use mathlib.Core.Path.{◌≡◌}
 use native.Mathlib.Omega.{arith}
 use lib.ListN.{length}
-use borrow.Author.Rules.{rules}
 use Rattle.hex_line.proofs.TextLaws.{placed_first, placed_next}
 use Rattle.page_text.specs.Text.{least_of, rows_text}
 use Rattle.page_text.proofs.PageLaws.{room_next, row_length_lem}
@@ -11,24 +10,24 @@ use Rattle.page_text.proofs.picture.put_rows.Invariants.{row_of}
 use Rattle.page_text.proofs.picture.put_rows.Goals as goal
 
 pub loop-row-init : goal.loop-row-init
-loop-row-init c = (search rules, refl, placed_first _)
+loop-row-init c = placed_first _
 
 pub put_row-end-requires : goal.put_row-end-requires
 unfolding rows_text
 put_row-end-requires c =
-    let f = row_of c.args.counts.now c.args.most c.args.connector in
-    let lengths : (k : ℕ) → length (f k) ≡ 76 = λ k. row_length_lem c.args.counts.now c.args.connector (least_of c.args.most (7 - k)) in
-    let room = room_next c.loop-row.row f lengths c.loop-row-test.true c.requires.2 c.loop-row.invariant.2 in
-    (c.requires.0, c.requires.1, rw row_length_lem (omega (arith, room, lengths c.loop-row.row)))
+    let a = c.args.connector.now in
+    let f = row_of a.counts.now c.args.most a.number in
+    let lengths : (k : ℕ) → length (f k) ≡ 76 = λ k. row_length_lem a.counts.now a.number (least_of c.args.most (7 - k)) in
+    let room = room_next c.loop-row.row f lengths c.loop-row-test.true c.requires c.loop-row.invariant in
+    rw row_length_lem (omega (arith, room, lengths c.loop-row.row))
 
 pub loop-row-preserved : goal.loop-row-preserved
 loop-row-preserved c =
-    let a = c.args in
-    let q = rw c.least_of.ensures at c.put_row-end.ensures in
-    (search rules, c.put_row-end.auto.text ∙ c.loop-row.invariant.1, placed_next _ (row_of a.counts.now a.most a.connector) c.loop-row.invariant.2 q)
+    let a = c.args.connector.now in
+    placed_next _ (row_of a.counts.now c.args.most a.number) c.loop-row.invariant (rw c.least_of.ensures at c.put_row-end.ensures)
 
 pub returns : goal.returns
 unfolding rows_text
 returns c =
     let all : c.loop-row.row ≡ 8 = omega arith in
-    rw all at c.loop-row.invariant.2
+    rw all at c.loop-row.invariant

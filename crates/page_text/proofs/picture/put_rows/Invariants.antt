@@ -1,8 +1,6 @@
 -- `picture::put_rows` meets its contract. Assumes nothing.
-use Prim.Native.Nat.{ℕ, ◌-◌, ◌≤◌}
-use mathlib.Core.Path.{◌≡◌}
+use Prim.Native.Nat.{ℕ, ◌-◌}
 use mathlib.Core.List.{List}
-use lib.ListN.{length}
 use Rattle.hex_line.specs.Text.{texts_below, Placed}
 use Rattle.page_text.specs.Text.{least_of, row_text}
 use Rattle.page_text.proofs.picture.put_rows.Given as goal
@@ -12,7 +10,4 @@ abbrev pub row_of : (counts : List ℕ) (most connector k : ℕ) → List ℕ
 row_of counts most connector k = row_text counts connector (least_of most (7 - k))
 
 abbrev pub invariant-loop-row : goal.invariant-loop-row
-invariant-loop-row l = (l.row ≤ 8) × (length l.text ≡ length l.initial.text) × Placed l.initial.text l.at (texts_below l.row (row_of l.counts l.most l.connector)) l.end l.text
-
-abbrev pub decreases-loop-row : goal.decreases-loop-row
-decreases-loop-row l = 8 - l.row
+invariant-loop-row l = Placed l.initial.text l.at (texts_below l.row (row_of l.connector.counts.now l.most l.connector.number)) l.end l.text

@@ -3,88 +3,27 @@ use Prim.Native.Nat.{◌+◌, ◌*◌, ◌-◌, ◌/◌, ◌≤◌, ◌<◌}
 use native.Mathlib.Omega.{arith}
 use mathlib.Core.Path.{◌≡◌, refl}
 use lib.ListN.{length, get_or}
-use borrow.Author.Rules.{rules}
-use Rattle.rcnp_reader.proofs.ScalerWords.{scalers_begin, scalers_same, scalers_read, scaler_refused, scaler_taken}
+use Rattle.rcnp_reader.proofs.ScalerWords.{scalers_begin, scalers_read, scaler_refused, scaler_taken}
 use Rattle.rcnp_reader.proofs.content.scalers.Goals as goal
 
 pub loop-index-init : goal.loop-index-init
-loop-index-init c = (search rules, scalers_begin)
-
-pub overflow_mul-place : goal.overflow_mul-place
-overflow_mul-place c =
-    let small : c.loop-index.index < 4096 = omega (arith, c.loop-index-test.true, c.requires) in
-    omega (arith, small)
-
-pub overflow_add-place : goal.overflow_add-place
-overflow_add-place c =
-    let below : (c.args.first + 2 * c.loop-index.index) + 1 < c.args.end = omega (arith, c.loop-index-test.true, c.requires) in
-    let inside : c.args.end ≤ length c.args.words.now = c.requires.1 in
-    omega (arith, below, inside)
-
-pub overflow_add-place-in-loop-index : goal.overflow_add-place-in-loop-index
-overflow_add-place-in-loop-index c =
-    let below : (c.args.first + 2 * c.loop-index.index) + 1 < c.args.end = omega (arith, c.loop-index-test.true, c.requires) in
-    let inside : c.args.end ≤ length c.args.words.now = c.requires.1 in
-    omega (arith, below, inside)
-
-pub word-high-requires : goal.word-high-requires
-word-high-requires c =
-    let below : (c.args.first + 2 * c.loop-index.index) + 1 < c.args.end = omega (arith, c.loop-index-test.true, c.requires) in
-    let inside : c.args.end ≤ length c.args.words.now = c.requires.1 in
-    omega (arith, below, inside)
-
-pub overflow_add-result : goal.overflow_add-result
-overflow_add-result c =
-    let below : (c.args.first + 2 * c.loop-index.index) + 1 < c.args.end = omega (arith, c.loop-index-test.true, c.requires) in
-    let inside : c.args.end ≤ length c.args.words.now = c.requires.1 in
-    omega (arith, below, inside)
-
-pub shape_of-rows-then-high-gt255 : goal.shape_of-rows-then-high-gt255
-shape_of-rows-then-high-gt255 c = scalers_same c.loop-index.invariant.1
+loop-index-init c = scalers_begin
 
 pub returns-then-high-gt255 : goal.returns-then-high-gt255
 returns-then-high-gt255 c =
-    let below : (c.args.first + 2 * c.loop-index.index) + 1 < c.args.end = omega (arith, c.loop-index-test.true, c.requires) in
+    let below : (c.args.first + 2 * c.loop-index.index) + 1 < c.args.end = omega (arith, c.requires) in
     let inside : c.args.end ≤ length c.args.words.now = c.requires.1 in
     let low : get_or c.args.words.now (c.args.first + 2 * c.loop-index.index) 0 < 65536 = omega (arith, c.type_inv.words (c.args.first + 2 * c.loop-index.index)) in
-    scaler_refused c.loop-index.invariant.1 below inside refl low c.word-high.ensures.0 c.loop-index.rows c.if-high-gt255.true
-
-pub overflow_cast-row : goal.overflow_cast-row
-overflow_cast-row c =
-    let small : c.loop-index.index < 4096 = omega (arith, c.loop-index-test.true, c.requires) in
-    omega (arith, small)
-
-pub word-requires : goal.word-requires
-word-requires c =
-    let below : (c.args.first + 2 * c.loop-index.index) + 1 < c.args.end = omega (arith, c.loop-index-test.true, c.requires) in
-    let inside : c.args.end ≤ length c.args.words.now = c.requires.1 in
-    omega (arith, below, inside)
-
-pub overflow_add-row : goal.overflow_add-row
-overflow_add-row c = omega (arith, c.if-high-gt255.false, c.word.ensures.1)
-
-pub overflow_add-at : goal.overflow_add-at
-overflow_add-at c =
-    let small : c.loop-index.index < 4096 = omega (arith, c.loop-index-test.true, c.requires) in
-    let few : c.args.at ≤ c.args.first = c.requires.4 in
-    let below : (c.args.first + 2 * c.loop-index.index) + 1 < c.args.end = omega (arith, c.loop-index-test.true, c.requires) in
-    let inside : c.args.end ≤ length c.args.words.now = c.requires.1 in
-    omega (arith, small, few, below, inside)
+    rw c.refuse.ensures (scaler_refused c.loop-index.invariant below inside refl low c.word-high.ensures.0 c.loop-index.rows c.if-high-gt255.true)
 
 pub loop-index-preserved : goal.loop-index-preserved
 loop-index-preserved c =
-    let below : (c.args.first + 2 * c.loop-index.index) + 1 < c.args.end = omega (arith, c.loop-index-test.true, c.requires) in
+    let below : (c.args.first + 2 * c.loop-index.index) + 1 < c.args.end = omega (arith, c.requires) in
     let inside : c.args.end ≤ length c.args.words.now = c.requires.1 in
-    (search rules, scaler_taken c.loop-index.invariant.1 below inside c.word.ensures.0 c.word.ensures.1 c.word-high.ensures.0 c.if-high-gt255.false c.store_row.ensures)
-
-pub overflow_add-result-2 : goal.overflow_add-result-2
-overflow_add-result-2 c = omega (arith, c.requires)
-
-pub shape_of-rows : goal.shape_of-rows
-shape_of-rows c = scalers_same c.loop-index.invariant.1
+    (scaler_taken c.loop-index.invariant below inside c.word.ensures.0 c.word.ensures.1 c.word-high.ensures.0 c.if-high-gt255.false c.store_row.ensures)
 
 pub returns : goal.returns
 returns c =
     let n = (c.args.end - c.args.first) / 2 in
-    let all : c.loop-index.index ≡ n = omega (arith, c.loop-index.invariant.0) in
-    rw all at (scalers_read c.loop-index.invariant.1 (omega (arith, c.requires)))
+    let all : c.loop-index.index ≡ n = omega arith in
+    rw all at (scalers_read c.loop-index.invariant (omega (arith, c.requires)))

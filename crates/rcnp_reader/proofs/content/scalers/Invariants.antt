@@ -1,10 +1,6 @@
 -- `content::scalers` meets its contract. Assumes nothing.
-use Prim.Native.Nat.{◌-◌, ◌≤◌}
 use Rattle.rcnp_reader.proofs.ScalerWords.{ScalersTo}
 use Rattle.rcnp_reader.proofs.content.scalers.Given as goal
 
 abbrev pub invariant-loop-index : goal.invariant-loop-index
-invariant-loop-index l = (l.index ≤ l.n) × ScalersTo l.words l.end l.first l.at l.initial.rows l.index l.rows
-
-abbrev pub decreases-loop-index : goal.decreases-loop-index
-decreases-loop-index l = l.n - l.index
+invariant-loop-index l = ScalersTo l.words l.end l.first l.at l.initial.rows l.index l.rows

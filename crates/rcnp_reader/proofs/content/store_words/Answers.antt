@@ -6,42 +6,28 @@ use lib.ListN.{length}
 use lib.Seq.{slice_empty}
 use Rattle.event.specs.Rows.{store_row}
 use Rattle.event.proofs.RowStores.{stored_next, stored_enough}
-use Rattle.rcnp_layout.specs.Layout.{word_row}
-use borrow.Author.Rules.{rules}
 use Rattle.rcnp_reader.proofs.content.store_words.Goals as goal
 
 pub loop-i-init : goal.loop-i-init
-loop-i-init c =
+loop-i-init g c =
     let first = c.args.first in
     let z : first + 0 ≡ first = omega arith in
-    (search rules, refl, rw (z, slice_empty first c.args.words.now))
-
-pub overflow_add-at : goal.overflow_add-at
-overflow_add-at c = omega (arith, c.fitting-most.ensures)
-
-pub overflow_add-first : goal.overflow_add-first
-overflow_add-first c = omega (arith, c.fitting-most.ensures)
-
-pub word-requires : goal.word-requires
-word-requires c = omega (arith, c.fitting-most.ensures)
+    (refl, rw (z, slice_empty first c.args.words.now))
 
 pub put_row-requires : goal.put_row-requires
-put_row-requires c = rw c.loop-i.invariant.1 (omega (arith, c.fitting-most.ensures))
+put_row-requires g c = rw c.loop-i.invariant.0 (omega (arith, c.fitting-i-end.ensures))
 
 pub loop-i-preserved : goal.loop-i-preserved
-loop-i-preserved c =
+loop-i-preserved g c =
     let e = c.args in
     let v = c.loop-i.invariant in
-    let inside : e.first + c.loop-i.i < length c.args.words.now = omega (arith, c.fitting-most.ensures, c.requires) in
-    let put = c.put_row.ensures ∙ ap (store_row c.loop-i.rows (e.at + c.loop-i.i)) c.word_row.ensures in
-    (search rules, c.put_row.auto.rows ∙ v.1, stored_next word_row c.args.words.now e.first e.at c.args.rows.now c.loop-i.i inside v.2 c.word.ensures.0 put)
-
-pub shape_of-rows : goal.shape_of-rows
-shape_of-rows c = c.loop-i.invariant.1
+    let inside : e.first + c.loop-i.i < length c.args.words.now = omega (arith, c.fitting-i-end.ensures, c.requires) in
+    let put = c.put_row.ensures ∙ ap (store_row c.loop-i.rows (e.at + c.loop-i.i)) c.row.ensures in
+    (c.put_row.auto.rows ∙ v.0, stored_next g.W.WordRow.row_of c.args.words.now e.first e.at c.args.rows.now c.loop-i.i inside v.1 c.word.ensures.0 put)
 
 pub returns : goal.returns
-returns c =
+returns g c =
     let e = c.args in
     let p = c.requires in
-    let all : c.loop-i.i ≡ c.fitting-most.result = omega arith in
-    c.loop-i.invariant.2 ∙ sym (stored_enough word_row c.args.words.now e.first e.at c.args.rows.now c.loop-i.i e.end p.0 p.1 (all ∙ c.fitting-most.ensures))
+    let all : c.loop-i.i ≡ c.fitting-i-end.result = omega arith in
+    c.loop-i.invariant.1 ∙ sym (stored_enough g.W.WordRow.row_of c.args.words.now e.first e.at c.args.rows.now c.loop-i.i e.end p.0 p.1 (all ∙ c.fitting-i-end.ensures))

@@ -31,4 +31,4 @@ pub returns : goal.returns
 returns c =
     let fits : (j : ℕ) → get_or c.args.words.now j 0 < 65536 = λ j. omega (arith, c.type_inv.words j) in
     sum_read c.args.words.now c.args.at c.requires.2 c.if-words-at.false c.word-size.ensures.0 c.if-words-at-2.false c.if-size-ne1.false fits c.if-words-at-gt2.false
-    c.store_row.ensures c.word.ensures.0 (c.store_row-2.ensures ∙ rw c.word_row.ensures)
+    c.store_row.ensures c.word.ensures.0 (c.store_row-2.ensures ∙ rw c.row.ensures)

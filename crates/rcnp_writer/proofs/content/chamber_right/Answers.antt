@@ -10,41 +10,19 @@ use Rattle.rcnp_writer.proofs.content.chamber_right.Goals as goal
 later : (k most : ℕ) → most ≡ last_kind true → most ≡ last_kind (ltb 0 (k + 1))
 later k most e = rw (lt-ltb 0 (k + 1) (omega arith)) e
 
-pub overflow_sub-rows : goal.overflow_sub-rows
-overflow_sub-rows c = omega (arith, c.requires, rows_count c.args.rows.now)
-
 pub returns-then-rows-first : goal.returns-then-rows-first
 returns-then-rows-first c e = impossible cc
-
-pub loop-k-init : goal.loop-k-init
-loop-k-init c = (omega arith, c.last_kind-most.ensures, λ e j h. absurd (omega arith))
-
-pub overflow_add-first : goal.overflow_add-first
-overflow_add-first c =
-    let inside : c.args.first + c.args.n ≤ length (rows_in c.args.rows.now) = omega (arith, c.requires, c.if-rows-first.false, rows_count c.args.rows.now) in
-    omega (arith, inside, c.loop-k-test.true, rows_count c.args.rows.now)
-
-pub row_there-requires : goal.row_there-requires
-row_there-requires c =
-    let inside : c.args.first + c.args.n ≤ length (rows_in c.args.rows.now) = omega (arith, c.requires, c.if-rows-first.false, rows_count c.args.rows.now) in
-    omega (arith, inside, c.loop-k-test.true)
-
-pub overflow_add-k : goal.overflow_add-k
-overflow_add-k c = omega (arith, c.loop-k-test.true)
-
-pub loop-k-smaller : goal.loop-k-smaller
-loop-k-smaller c = omega (arith, c.loop-k-test.true)
 
 pub loop-k-preserved : goal.loop-k-preserved
 loop-k-preserved c =
     let next_right : c.loop-k.right && c.vdc_right-right.result ≡ true → RightTo (rows_in c.args.rows.now) c.args.first (c.loop-k.k + 1) =
     right_next (rows_in c.args.rows.now) c.args.first c.loop-k.k c.loop-k.right c.vdc_right-right.result
-    c.loop-k.invariant.2 c.loop-k.invariant.1 c.row_there.ensures c.vdc_right-right.ensures in
+    c.loop-k.invariant.1 c.loop-k.invariant.0 c.row_there.ensures c.vdc_right-right.ensures in
     let l = c.loop-k in
-    (omega (arith, c.loop-k-test.true), later l.k _ c.last_kind-most-in-loop-k.ensures, next_right)
+    (later l.k _ c.last_kind-most-in-loop-k.ensures, next_right)
 
 pub returns : goal.returns
 returns c t =
     let inside : c.args.first + c.args.n ≤ length (rows_in c.args.rows.now) = omega (arith, c.requires, c.if-rows-first.false, rows_count c.args.rows.now) in
     let done = c.loop-k-test.false in
-    record { inside = inside; each = λ k h. c.loop-k.invariant.2 t k (omega arith) }
+    record { inside = inside; each = λ k h. c.loop-k.invariant.1 t k (omega arith) }

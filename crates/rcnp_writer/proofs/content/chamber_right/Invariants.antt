@@ -1,5 +1,5 @@
 -- `content::chamber_right` meets its contract. Assumes nothing.
-use Rattle.std.proofs.Common.{◌≡◌, ◌-◌, ◌≤◌, true, ltb}
+use Rattle.std.proofs.Common.{◌≡◌, true, ltb}
 use Rattle.event.specs.Writing.{rows_in}
 use Rattle.rcnp_writer.specs.Faults.{last_kind}
 use Rattle.rcnp_writer.proofs.Contents.{RightTo}
@@ -7,7 +7,4 @@ use Rattle.rcnp_writer.proofs.content.chamber_right.Given as goal
 
 -- k rows were judged
 abbrev pub invariant-loop-k : goal.invariant-loop-k
-invariant-loop-k l = (l.k ≤ l.n) × (l.most ≡ last_kind (ltb 0 l.k)) × (l.right ≡ true → RightTo (rows_in l.rows) l.first l.k)
-
-abbrev pub decreases-loop-k : goal.decreases-loop-k
-decreases-loop-k l = l.n - l.k
+invariant-loop-k l = (l.most ≡ last_kind (ltb 0 l.k)) × (l.right ≡ true → RightTo (rows_in l.rows) l.first l.k)

@@ -1,47 +1,21 @@
 -- `content::judge_words` meets its contract. Assumes nothing.
-use Rattle.std.proofs.Common.{◌≡◌, ◌+◌, ◌/◌, ◌≤◌, length, sym, ◌∙◌, arith}
+use Rattle.std.proofs.Common.{◌≡◌, arith}
+use Rattle.std.proofs.lemmas.Result.{err_from_is_err_and}
+use Rattle.event.proofs.Answers.{passed_test, failed_test}
 use Rattle.event.proofs.CountedRows.{counted_begin}
-use Rattle.event.proofs.RowsIn.{rows_count}
-use Rattle.rcnp_writer.specs.Faults.{datum_fault}
 use Rattle.rcnp_writer.proofs.Contents.{words_done, word_refused, word_next}
 use Rattle.rcnp_writer.proofs.content.judge_words.Goals as goal
 
 pub loop-k-init : goal.loop-k-init
 loop-k-init c = counted_begin tt c.requires.1 (omega arith)
 
-pub overflow_add-first : goal.overflow_add-first
-overflow_add-first c =
-    let inside : c.args.first + c.loop-k.k ≤ length c.args.rows.now / 4 = omega (arith, c.loop-k.invariant.reached.inside, rows_count c.args.rows.now) in
-    omega (arith, inside)
-
-pub overflow_add-first-then-number-ne0 : goal.overflow_add-first-then-number-ne0
-overflow_add-first-then-number-ne0 c =
-    let inside : c.args.first + c.loop-k.k ≤ length c.args.rows.now / 4 = omega (arith, c.loop-k.invariant.reached.inside, rows_count c.args.rows.now) in
-    omega (arith, inside)
-
-pub returns-then-number-ne0 : goal.returns-then-number-ne0
-returns-then-number-ne0 c = word_refused c.loop-k.invariant c.loop-k-test.true c.row_at-row.ensures c.datum_fault-number.ensures c.if-number-ne0.true c.refuse_part.ensures
-
-pub overflow_add-k : goal.overflow_add-k
-overflow_add-k c = omega (arith, c.loop-k-test.true)
-
-pub loop-k-smaller : goal.loop-k-smaller
-loop-k-smaller c = omega (arith, c.loop-k-test.true)
+pub returns-in_err-check_datum : goal.returns-in_err-check_datum
+returns-in_err-check_datum c =
+    let p = err_from_is_err_and c.from_residual.result c.from_residual.ensures.1 in
+    rw (p.1, p.2) (word_refused c.loop-k.invariant c.loop-k-test.true c.row_at.ensures (failed_test _ _ c.in_err-check_datum.ensures))
 
 pub loop-k-preserved : goal.loop-k-preserved
-loop-k-preserved c =
-    let right : 0 ≡ datum_fault 33 0 65536 c.row_at-row.result = sym c.if-number-ne0.false ∙ c.datum_fault-number.ensures in
-    word_next c.loop-k.invariant c.loop-k-test.true c.row_at-row.ensures right (omega arith)
-
-pub overflow_add-result : goal.overflow_add-result
-overflow_add-result c =
-    let inside : c.args.first + c.loop-k.k ≤ length c.args.rows.now / 4 = omega (arith, c.loop-k.invariant.reached.inside, rows_count c.args.rows.now) in
-    omega (arith, inside)
-
-pub overflow_add-result-2 : goal.overflow_add-result-2
-overflow_add-result-2 c =
-    let inside : c.args.first + c.loop-k.k ≤ length c.args.rows.now / 4 = omega (arith, c.loop-k.invariant.reached.inside, rows_count c.args.rows.now) in
-    omega (arith, inside, c.loop-k.invariant.reached.few)
+loop-k-preserved c = word_next c.loop-k.invariant c.loop-k-test.true c.row_at.ensures (passed_test _ _ c.in_ok-check_datum.ensures) (omega arith)
 
 pub returns : goal.returns
-returns c = words_done c.loop-k.invariant c.loop-k-test.false
+returns c = let all : c.loop-k.k ≡ c.args.n = omega arith in rw all at (words_done c.loop-k.invariant (omega arith))

@@ -5,8 +5,8 @@ use Rattle.event.specs.Writing.{rows_in}
 use Rattle.s800_writer.proofs.GroupTurns.{Groups}
 use Rattle.s800_writer.proofs.groups.write_samples.Given as goal
 
-abbrev pub invariant-loop-head : goal.invariant-loop-head
-invariant-loop-head l = Groups (rows_in l.rows) l.from l.first l.initial.words l.i l.at l.words
+abbrev pub invariant-loop-refusal : goal.invariant-loop-refusal
+invariant-loop-refusal l = Groups (rows_in l.run.rows.now) l.run.from l.run.first l.initial.words l.i l.at l.words
 
-abbrev pub decreases-loop-head : goal.decreases-loop-head
-decreases-loop-head l = length (rows_in l.rows) - l.i
+abbrev pub decreases-loop-refusal : goal.decreases-loop-refusal
+decreases-loop-refusal l = length (rows_in l.run.rows.now) - l.i

@@ -1,50 +1,45 @@
 -- `other_packets::write_crdc` meets its contract. Assumes nothing.
+use Prim.Native.Nat.{◌+◌}
 use native.Mathlib.Omega.{arith}
-use mathlib.Core.Path.{sym, ◌∙◌}
+use Rattle.s800_writer.specs.Rows.{limits_fault}
+use Rattle.event.proofs.Answers.{passed_test, failed_test}
+use Rattle.s800_writer.proofs.Packets.{packet_closed, packet_refused, content_refused}
+use Rattle.s800_writer.proofs.Crdc.{threshold_refused, threshold_inside, samples_refused, crdc_content}
+use Rattle.s800_writer.proofs.Failures.{handed_on}
 use Rattle.event.specs.Writing.{rows_in}
-use Rattle.event.proofs.RowsIn.{rows_count}
 use Rattle.s800_layout.specs.Event.{crdc}
-use Rattle.s800_writer.proofs.Crdc.{threshold_refused, threshold_inside, samples_refused, samples_within, crdc_content}
-use Rattle.s800_writer.proofs.Packets.{packet_closed, packet_refused}
+use Rattle.event.proofs.RowsIn.{rows_count}
 use Rattle.s800_writer.proofs.other_packets.write_crdc.Goals as goal
 
-pub overflow_add-own : goal.overflow_add-own
-overflow_add-own c = omega (arith, rows_count c.args.rows.now, c.requires)
+pub returns-in_err-check_limits : goal.returns-in_err-check_limits
+returns-in_err-check_limits c =
+    let failed = failed_test (limits_fault 7 0 0 65535 c.row_at-threshold.result) (c.args.own.at + 1) c.in_err-check_limits.ensures in
+    rw (handed_on c.from_residual.result c.from_residual.ensures.1)
+    (packet_refused crdc c.args.id (rows_in c.args.own.rows.now) c.args.own.at (threshold_refused c.args.id (rows_in c.args.own.rows.now) c.args.own.at c.row_at-threshold.ensures failed))
 
-pub overflow_add-own-then-number-ne0 : goal.overflow_add-own-then-number-ne0
-overflow_add-own-then-number-ne0 c = omega (arith, rows_count c.args.rows.now, c.requires)
+pub overflow_add-own-3 : goal.overflow_add-own-3
+overflow_add-own-3 c =
+    let passed = passed_test (limits_fault 7 0 0 65535 c.row_at-threshold.result) (c.args.own.at + 1) c.in_ok-check_limits.ensures in
+    omega (arith, rows_count c.args.own.rows.now, threshold_inside c.args.id (rows_in c.args.own.rows.now) c.args.own.at c.row_at-threshold.ensures passed)
 
-pub returns-then-number-ne0 : goal.returns-then-number-ne0
-returns-then-number-ne0 c =
-    packet_refused crdc c.args.id (rows_in c.args.rows.now) c.args.own (threshold_refused c.args.id (rows_in c.args.rows.now) c.args.own c.row_at-threshold.ensures c.limits_fault-number.ensures
-    c.if-number-ne0.true) c.refuse_part.ensures
+pub invariant_of-write_samples : goal.invariant_of-write_samples
+invariant_of-write_samples c =
+    let passed = passed_test (limits_fault 7 0 0 65535 c.row_at-threshold.result) (c.args.own.at + 1) c.in_ok-check_limits.ensures in
+    record { inside = omega (arith, threshold_inside c.args.id (rows_in c.args.own.rows.now) c.args.own.at c.row_at-threshold.ensures passed); few = omega arith }
 
-pub overflow_add-own-2 : goal.overflow_add-own-2
-overflow_add-own-2 c =
-    omega (arith, rows_count c.args.rows.now, (threshold_inside c.args.id (rows_in c.args.rows.now) c.args.own c.row_at-threshold.ensures (sym c.if-number-ne0.false ∙ c.limits_fault-number.ensures)))
+pub returns-in_err-samples : goal.returns-in_err-samples
+returns-in_err-samples c =
+    let passed = passed_test (limits_fault 7 0 0 65535 c.row_at-threshold.result) (c.args.own.at + 1) c.in_ok-check_limits.ensures in
+    rw (handed_on c.from_residual-in_err-samples.result c.from_residual-in_err-samples.ensures.1)
+    (packet_refused crdc c.args.id (rows_in c.args.own.rows.now) c.args.own.at (samples_refused c.args.id (rows_in c.args.own.rows.now) c.args.own.at c.row_at-threshold.ensures passed c.store_word.new.words c.store_word-2.ensures c.in_err-samples.ensures))
 
-pub write_samples-written-requires : goal.write_samples-written-requires
-write_samples-written-requires c =
-    record {
-      inside = omega (arith, (threshold_inside c.args.id (rows_in c.args.rows.now) c.args.own c.row_at-threshold.ensures (sym c.if-number-ne0.false ∙ c.limits_fault-number.ensures)));
-      few =
-          omega arith;
-    }
-
-pub returns-in_default : goal.returns-in_default
-returns-in_default c =
-    packet_refused crdc c.args.id (rows_in c.args.rows.now) c.args.own (samples_refused c.args.id (rows_in c.args.rows.now) c.args.own c.row_at-threshold.ensures
-    (sym c.if-number-ne0.false ∙ c.limits_fault-number.ensures) _ c.store_word16-2.ensures c.write_samples-written.ensures c.close-samples.ensures.part c.close-samples.ensures.words
-    c.in_default.is) c.in_default.is
-
-pub write_anode-anode-requires : goal.write_anode-anode-requires
-write_anode-anode-requires c =
-    let w = samples_within c.args.id (rows_in c.args.rows.now) c.args.own c.row_at-threshold.ensures (sym c.if-number-ne0.false ∙ c.limits_fault-number.ensures) _ c.store_word16-2.ensures
-    c.write_samples-written.ensures c.close-samples.ensures.part c.close-samples.ensures.words c.in-Done.is in
-    record { inside = w.0; few = w.1 }
+pub returns-in_err-anode : goal.returns-in_err-anode
+returns-in_err-anode c =
+    let passed = passed_test (limits_fault 7 0 0 65535 c.row_at-threshold.result) (c.args.own.at + 1) c.in_ok-check_limits.ensures in
+    rw (handed_on c.from_residual-in_err-anode.result c.from_residual-in_err-anode.ensures.1)
+    (content_refused crdc c.args.id (rows_in c.args.own.rows.now) c.args.own.at (crdc_content c.args.id (rows_in c.args.own.rows.now) c.args.own.at c.row_at-threshold.ensures passed c.store_word.new.words c.store_word-2.ensures c.in_ok-samples.ensures c.close.ensures c.store_word.ensures c.in_err-anode.ensures))
 
 pub returns : goal.returns
 returns c =
-    packet_closed crdc c.args.id (rows_in c.args.rows.now) c.args.own (crdc_content c.args.id (rows_in c.args.rows.now) c.args.own c.row_at-threshold.ensures
-    (sym c.if-number-ne0.false ∙ c.limits_fault-number.ensures) _ c.store_word16-2.ensures c.write_samples-written.ensures c.close-samples.ensures.part c.close-samples.ensures.words c.in-Done.is
-    c.store_word16.ensures c.write_anode-anode.ensures) c.close.ensures.part c.close.ensures.words
+    let passed = passed_test (limits_fault 7 0 0 65535 c.row_at-threshold.result) (c.args.own.at + 1) c.in_ok-check_limits.ensures in
+    packet_closed crdc c.args.id (rows_in c.args.own.rows.now) c.args.own.at (crdc_content c.args.id (rows_in c.args.own.rows.now) c.args.own.at c.row_at-threshold.ensures passed c.store_word.new.words c.store_word-2.ensures c.in_ok-samples.ensures c.close.ensures c.store_word.ensures c.in_ok-anode.ensures) c.close-2.ensures

@@ -9,11 +9,11 @@ returns-then-tag-ne88 c = count_elsewhere _ c.if-tag-ne88.true
 pub returns-then-tag-eq0 : goal.returns-then-tag-eq0
 returns-then-tag-eq0 c = count_looked_up _ c.if-tag-ne88.false c.if-tag-eq0.true
 
-pub returns-then-tag-eq-TRIGGER : goal.returns-then-tag-eq-TRIGGER
-returns-then-tag-eq-TRIGGER c = count_known trigger c.if-tag-eq-TRIGGER.true
+pub returns-then-tag : goal.returns-then-tag
+returns-then-tag c = count_known trigger c.if-tag.true
 
-pub returns-then-tag-eq-TIME_OF_FLIGHT : goal.returns-then-tag-eq-TIME_OF_FLIGHT
-returns-then-tag-eq-TIME_OF_FLIGHT c = count_known time_of_flight c.if-tag-eq-TIME_OF_FLIGHT.true
+pub returns-then-tag-2 : goal.returns-then-tag-2
+returns-then-tag-2 c = count_known time_of_flight c.if-tag-2.true
 
 pub returns : goal.returns
-returns c = count_between _ c.if-tag-eq0.false c.if-tag-eq-TRIGGER.false c.if-tag-eq-TIME_OF_FLIGHT.false
+returns c = count_between _ c.if-tag-eq0.false c.if-tag.false c.if-tag-2.false
