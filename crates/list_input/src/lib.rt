@@ -40,7 +40,8 @@ pub struct Buffers {
     pub text: [u8; BUFFER],
 }
 
-// Where a run stands: input[from..end] was read and is not listed yet, text[..at] was put last, and so many lines were listed.
+// Where a run stands: input[from..end] was read and is not listed yet, text[..at] was put last, and so many lines were listed. (That it stands within its buffers is
+// said in contracts, `Inside`: it needs their lengths, and the laws compare whole runs, which no proof may stand in. A ghost field would be no plainer.)
 #[derive(Clone, Copy, Default)]
 struct Run {
     from: usize,

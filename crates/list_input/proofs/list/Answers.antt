@@ -18,9 +18,6 @@ loop-turn-init c =
     let z : (r.from ≡ 0) × ((r.end ≡ 0) × ((r.at ≡ 0) × ((r.accepted ≡ 0) × (r.refused ≡ 0)))) = d.0 in
     rw (z.0, z.1.0, z.1.1.0, z.1.1.1.0, z.1.1.1.1, d.1.0, d.1.1) (refl, record { begins = omega arith; ends = omega arith; text = omega arith; lines = omega arith }, told_start c.args.order)
 
-pub turn-requires : goal.turn-requires
-turn-requires c = record { inside = (c.loop-turn.invariant.1, c.loop-turn.invariant.0) }
-
 pub loop-turn-preserved : goal.loop-turn-preserved
 loop-turn-preserved c =
     let e = c.in-Ok.ensures in

@@ -3,29 +3,14 @@ use Prim.Native.Nat.{ℕ, ◌+◌, ◌-◌}
 use native.Mathlib.Omega.{arith}
 use mathlib.Core.Path.{◌≡◌, ap}
 use mathlib.Core.List.{List}
-use lib.ListN.{take, drop, length-take}
+use lib.ListN.{take, drop}
 use Rattle.list_input.proofs.Steps.{listed_as}
-use Rattle.list_input.proofs.LineCalls.{answered, few, rows_given}
+use Rattle.list_input.proofs.LineCalls.{answered, rows_given}
 use Rattle.list_input.proofs.lines.list_line.Goals as goal
 
 -- the line as it is passed on
 passed_line : (input : List ℕ) (from count : ℕ) → take (from + count - from) (drop from input) ≡ take count (drop from input)
 passed_line input from count = let n : from + count - from ≡ count = omega arith in ap (λ (k : ℕ). take k (drop from input)) n
-
-pub overflow_mul-elements : goal.overflow_mul-elements
-overflow_mul-elements c =
-    let a = c.args in
-    let b = a.line.now in
-    let p = passed_line a.input.now a.run.from a.count in
-    omega (arith, c.unwrap_or-elements.ensures, few a.order p b.words b.longwords b.rows (omega arith) (omega arith) (omega arith) c.line_rows-answer.ensures.answer)
-
-pub put_line-requires : goal.put_line-requires
-put_line-requires c =
-    let a = c.args in
-    let b = a.line.now in
-    let p = passed_line a.input.now a.run.from a.count in
-    let f = few a.order p b.words b.longwords b.rows (omega arith) (omega arith) (omega arith) c.line_rows-answer.ensures.answer in
-    record { line_inside = c.requires.line_inside; rows_in_bounds = rw length-take (omega (arith, c.unwrap_or-elements.ensures, f)) }
 
 pub returns : goal.returns
 returns c =
