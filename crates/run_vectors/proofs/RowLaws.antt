@@ -19,12 +19,8 @@ use Rattle.run_vectors.specs.Lines.{line_bytes, line_at}
 use borrow.Author.Tests.{leb-true, lt-ltb, le-ltb}
 use Rattle.run_vectors.specs.Vectors.{most_elements, call_number, head_holds, expansion, row_of, suits, call_of, call_dialect, vector_of, vector_at, VectorWithin}
 
--- a row that is stored so many times: none, and one more
+-- a row that is stored so many times: once more
 module _ (buffer : List ℕ) (at : ℕ) (row : Row) where
-  pub repeat_none : (n : ℕ) → n ≤ 0 → store_rows buffer at (replicate n row) ≡ buffer
-  repeat_none zero h = refl
-  repeat_none (suc n) h = absurd (not-suc-le-zero h)
-
   pub repeat_next : (n : ℕ) → 0 < n → store_rows buffer at (replicate n row) ≡ store_rows (store_row buffer at row) (at + 1) (replicate (n - 1) row)
   repeat_next zero h = absurd (not-suc-le-zero h)
   repeat_next (suc n) h = rw sub-one

@@ -23,7 +23,3 @@ module _ (elements : List ℕ) (i : ℕ) where
   pub no_more : length elements ≤ i → all_words16 (drop i elements) ≡ true
   unfolding all_words16
   no_more h = rw (drop_of_length-le elements {i = i} h)
-
--- no more than the first so many elements
-pub take_within : (j most : ℕ) (l : List ℕ) → j ≤ most → length (take j l) ≤ most
-take_within j most l h = simp length-take (omega arith)
