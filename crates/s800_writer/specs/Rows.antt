@@ -10,7 +10,6 @@ use Rattle.s800_layout.specs.Layout.{datum_word, sample_datum_word, sample_datum
 use Rattle.s800_layout.specs.Writing.{datum_of, sample_datum_of}
 use Rattle.s800_format.specs.declared.Format.{Format}
 use Rattle.s800_format.specs.Format.{bits_of, format_of}
-use Rattle.event.specs.Kind.{number as kind_number}
 
 -- 21: not of this kind; 22: a field above its largest number; 0 for none
 unfoldable pub limits_fault : (kind unit channel datum : ℕ) → Row → ℕ
@@ -19,7 +18,7 @@ limits_fault kind unit channel datum r = cond (eqb kind r.kind) (cond ((leb r.un
 -- a time or an energy after the channels of a set: 21 its kind; 22 its unit, its channel (not allowed, or seen), its number; 0 for none
 unfoldable pub datum_fault : Format → (set : ℕ) → Row → ℕ
 datum_fault m set r =
-    cond (eqb (kind_number m.kind) r.kind)
+    cond (eqb m.kind r.kind)
     (cond (leb m.base r.channel)
     (cond ((eqb r.unit 0 && ltb (r.channel - m.base) 16) && ltb r.datum (2 ^ bits_of m))
     (cond (present set (r.channel - m.base)) 22 0)

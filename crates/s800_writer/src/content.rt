@@ -1,7 +1,6 @@
 // Content rows that come in runs, up to the next packet's own row. A run's end shows only at the row that ends it, so that a `for` would look at each row twice:
 // the loops here count the row and the word by hand.
 ghost use Rattle.std.specs.Prelude.{◌≡◌, [], ◌+◌, ◌<◌, ◌^◌, drop};
-ghost use Rattle.event.specs.Kind.{number};
 ghost use Rattle.event.specs.Parser.{many, several, each};
 ghost use Rattle.event.specs.Words.{word_alone};
 ghost use Rattle.event.specs.Scanning.{store_words, Writes};
@@ -35,8 +34,8 @@ pub(crate) fn channel_word(format: Format, channel: u32, number: u32) -> u32
 
 // Times or energies of a format, no channel twice.
 pub(crate) fn write_channels(run: Run, format: Format, words: &mut [u16]) -> Result<Part, Refusal>
-    requires { (1 < number format.kind) }
-    ensures { Writes 16 (each (datum_words format)) (channel_rows (number format.kind) format.base (format_of format) run.entry.from (drop run.entry.from (rows_in run.entry.rows.now))) (rows_in run.entry.rows.now) run.entry.first words.old result words.new }
+    requires { 1 < format.kind }
+    ensures { Writes 16 (each (datum_words format)) (channel_rows format.kind format.base (format_of format) run.entry.from (drop run.entry.from (rows_in run.entry.rows.now))) (rows_in run.entry.rows.now) run.entry.first words.old result words.new }
 {
     let mut blocked = format.barred;
     let mut i = run.from;

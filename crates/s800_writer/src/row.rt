@@ -60,7 +60,7 @@ pub(crate) fn check_channel(
 ) -> Result<(), Refusal>
     ensures { result ≡ verdict (datum_fault format blocked row) place }
 {
-    if row.kind != format.kind.number() {
+    if row.kind != format.kind {
         return refuse(Fault::Kind, place);
     }
     if row.channel < format.base {
