@@ -17,6 +17,15 @@ use Rattle.event.proofs.RowStores.{length_rows, past_room}
 use Rattle.event.proofs.Turns.{at_word}
 use Rattle.s800_layout.specs.Layout.{pad}
 use Rattle.s800_reader.specs.Groups.{head_after, word_row, word_rows}
+use Rattle.s800_reader.specs.Groups.{FaultAt}
+use Rattle.event.specs.Refusal.{Answer, refusal}
+use Rattle.event.specs.Parser.{each}
+use Rattle.event.specs.Scanning.{Scanned}
+use Rattle.event.proofs.Leads.{scanned_refuse}
+use Rattle.s800_layout.specs.Layout.{group_rows}
+use Rattle.s800_reader.specs.Channel.{NoMore}
+use Rattle.std.specs.Prelude.{Err}
+use Rattle.s800_reader.specs.Groups.{groups_in}
 
 -- a row, field by field
 pub picked_row : (head w : ℕ) {k v d c : ℕ} → k ≡ cond (leb (2 ^ 15) w) 8 12 → v ≡ cond (leb (2 ^ 15) w) w head → d ≡ cond (leb (2 ^ 15) w) 0 w → c ≡ pad (v % 64) (d / 1024)
@@ -80,3 +89,8 @@ module _ {ws : List ℕ} {from end first : ℕ} {b₀ : List ℕ} where
         go false t =
             let full = leb-false (end - from) (room (length b₀) - first) t in
             past_room left (store_rows b₀ first h.done) (first + length h.done) (rw (length_rows h.done b₀ first) (omega (arith, h.count)))
+
+-- groups that are refused
+pub samples_refused : (ws : List ℕ) (from end : ℕ) {place k : ℕ} {b after : List ℕ} {a : Answer} → FaultAt ws from end place → a ≡ Err (refusal 10 place)
+    → Scanned (each group_rows) (groups_in ws from end) k b a after × NoMore end a
+samples_refused ws from end {place} {k} {b} {after} t e = rw (e, t.named) (scanned_refuse (each group_rows) {n = t.number} {p = t.place} k b after t.refused, tt)

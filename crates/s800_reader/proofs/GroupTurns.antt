@@ -22,9 +22,6 @@ use Rattle.s800_layout.specs.Reading.{sample_head_of, sample_datum_of}
 use Rattle.s800_reader.specs.Groups.{FaultAt, is_head, follows, word_row, word_rows, groups_in, Judged}
 use Rattle.s800_reader.proofs.GroupWords.{Rest, rest_rows, rest, with_head, with_datum, leads_begin, head_again, head_taken, datum_high, datum_falls, datum_taken, end_reached}
 use Rattle.event.specs.Refusal.{refusal}
-use Rattle.event.specs.Refusal.{Answer}
-use Rattle.event.specs.Scanning.{Scanned}
-use Rattle.s800_reader.specs.Channel.{NoMore}
 use Rattle.std.specs.Prelude.{Err}
 
 -- the least connector of a data word after this word
@@ -251,8 +248,3 @@ head_last {ws} {from} {end} {place} {least} h e j = go (eqb least 0) refl
     go : (b : Bool) → eqb least 0 ≡ b → FaultAt ws from end place
     go true z = ends_short h e (eqb-true least 0 z)
     go false z = let s = (rw j.1.refused at (ends_well h e (eqb-false least 0 z) 0 [])).answered in impossible cc
-
--- groups that are refused
-pub samples_refused : (ws : List ℕ) (from end : ℕ) {place k : ℕ} {b after : List ℕ} {a : Answer} → FaultAt ws from end place → a ≡ Err (refusal 10 place)
-    → Scanned (each group_rows) (groups_in ws from end) k b a after × NoMore end a
-samples_refused ws from end {place} {k} {b} {after} t e = rw (e, t.named) (scanned_refuse (each group_rows) {n = t.number} {p = t.place} k b after t.refused, tt)

@@ -8,7 +8,7 @@ use Rattle.event.specs.Parser.{ended, ◌>>◌, require, many, several, each}
 use Rattle.event.specs.Parser as parser
 use Rattle.event.specs.Rows.{row}
 use Rattle.event.specs.Scanning.{RefusedAs, Leads}
-use Rattle.s800_layout.specs.Event.{Form, Pair, Anode, crdc, samples_tag, anode_tag, tag, hits_id, largest_id}
+use Rattle.s800_layout.specs.Event.{Form, Pair, Group, Anode, crdc, samples_tag, anode_tag, tag, hits_id, largest_id}
 use Rattle.s800_layout.specs.Event as event
 use Rattle.s800_layout.specs.Layout.{packet_row, packet_rows, pair_channels}
 use Rattle.s800_layout.specs.Reading.{allowed_length, channel_words, packet_content, packet, whole, pair, inner, anode}
@@ -17,6 +17,7 @@ use Rattle.s800_reader.specs.declared.channel.Channels.{Channels}
 use Rattle.s800_reader.specs.declared.packet.Packet.{Packet}
 use Rattle.s800_format.specs.Format.{format_of}
 use Rattle.s800_reader.specs.Channel.{channel_rows}
+use Rattle.s800_reader.specs.Groups.{groups_in}
 
 -- a packet of n words at `start` lies within the words, after no more rows than words
 pub record PacketAt (ws : List ℕ) (start n count : ℕ) : Type 0 where
@@ -79,7 +80,7 @@ pub record OpensPacket (ws : List ℕ) (start k : ℕ) (before after : List ℕ)
   pub opens : Opens ws (start + get_or ws start 0) packet_rows (packet start (drop start ws)) k before after r
   pub ends : EndInside ws start r
 
--- The code's packet: it is of form f, opened after its tag; its opaque words, its pairs, and the anode of a CRDC.
+-- The code's packet: it is of form f, opened after its tag; its opaque words, its pairs, and the groups and the anode of a CRDC.
 abbrev pub Opened : Form → Packet → (before after : List ℕ) → OpenAnswer → Type 0
 Opened f p = OpensAs f p.words.now p.start p.size p.count
 
@@ -88,6 +89,9 @@ opaques_of p = several whole ended (p.start + 2) (slice (p.start + 2) (p.start +
 
 abbrev pub pairs_of : Packet → parser.Result ℕ (List Pair)
 pairs_of p = many pair pair_channels ended [] (p.start + 2) (slice (p.start + 2) (p.start + p.size) p.words.now)
+
+abbrev pub samples_of : Packet → parser.Result ℕ (List Group)
+samples_of p = groups_in p.words.now (p.start + 6) (p.start + p.size - 4)
 
 abbrev pub anode_of : Packet → parser.Result ℕ Anode
 anode_of p = inner 4 anode_tag anode (p.start + p.size - 4) (slice (p.start + p.size - 4) (p.start + p.size) p.words.now)

@@ -6,7 +6,8 @@ ghost use Rattle.event.specs.Parser.{each};
 ghost use Rattle.event.specs.Scanning.{store_rows, Scanned};
 ghost use Rattle.s800_layout.specs.Layout.{group_rows};
 ghost use Rattle.s800_reader.specs.Channel.{NoMore};
-ghost use Rattle.s800_reader.specs.Groups.{follows, word_row, word_rows, groups_in, FaultAt, Judged};
+ghost use Rattle.s800_reader.specs.Groups.{follows, word_row, word_rows, FaultAt, Judged};
+ghost use Rattle.s800_reader.specs.Opening.{samples_of};
 
 use crate::packet::Packet;
 use crate::word::word;
@@ -17,25 +18,38 @@ use event::rows::{fitting, store_row};
 use event::words::pick;
 use s800_format::pad;
 
+// Words of an event that are to be groups: those from `from` up to `end`.
+#[derive(Clone, Copy)]
+struct Samples<'a> {
+    words: &'a [u16],
+    from: usize,
+    end: usize,
+    ghost ordered: { from ≤ end },
+    ghost inside: { end ≤ length words.now },
+}
+
 // The groups of a CRDC packet: from word 6 up to the last four.
 pub(crate) fn read_samples(packet: Packet, rows: &mut [u32]) -> Result<usize, Refusal>
     requires { 10 ≤ packet.size }
-    ensures { Scanned (each group_rows) (groups_in packet.entry.words.now (packet.entry.start + 6) (packet.entry.start + packet.entry.size - 4)) (packet.entry.count + 2) rows.old result rows.new × NoMore (packet.entry.start + packet.entry.size - 4) result }
+    ensures { Scanned (each group_rows) (samples_of packet.entry) (packet.entry.count + 2) rows.old result rows.new × NoMore (packet.entry.start + packet.entry.size - 4) result }
 {
-    let from = packet.start + 6;
-    let end = packet.start + packet.size - 4;
-    if groups_hold(packet.words, from, end) {
-        store_groups(packet.words, from, end, rows, packet.count + 2);
-        return Ok(packet.count + 2 + (end - from));
+    let samples = Samples {
+        words: packet.words,
+        from: packet.start + 6,
+        end: packet.start + packet.size - 4,
+    };
+    if groups_hold(samples) {
+        store_groups(samples, rows, packet.count + 2);
+        return Ok(packet.count + 2 + (samples.end - samples.from));
     }
-    refuse(Fault::Data, group_fault(packet.words, from, end))
+    refuse(Fault::Data, group_fault(samples))
 }
 
 // Whether the words are groups. Nothing is decided before the last of them, so that several are judged at once.
-fn groups_hold(words: &[u16], from: usize, end: usize) -> bool
-    requires { (from ≤ end) × (end ≤ length words.now) }
-    ensures { Judged words.now from end result }
+fn groups_hold(samples: Samples) -> bool
+    ensures { Judged samples.entry.words.now samples.entry.from samples.entry.end result }
 {
+    let Samples { words, from, end } = samples;
     if from == end {
         return true;
     }
@@ -56,10 +70,11 @@ fn follow(before: u32, w: u32) -> bool
 }
 
 // The place of the first fault in words that are not groups: a data word, or a head with no data word after it.
-fn group_fault(words: &[u16], from: usize, end: usize) -> usize
-    requires { (from ≤ end) × (end ≤ length words.now) × Judged words.now from end false }
-    ensures { FaultAt words.now from end result }
+fn group_fault(samples: Samples) -> usize
+    requires { Judged samples.words.now samples.from samples.end false }
+    ensures { FaultAt samples.entry.words.now samples.entry.from samples.entry.end result }
 {
+    let Samples { words, from, end } = samples;
     // As after a data word of connector 3: only a head may come first.
     let mut before: u32 = 0x0c00;
     let mut head = from;
@@ -80,10 +95,10 @@ fn group_fault(words: &[u16], from: usize, end: usize) -> usize
 }
 
 // Stores the rows of words that are groups: those that fit.
-fn store_groups(words: &[u16], from: usize, end: usize, rows: &mut [u32], first: usize)
-    requires { (from ≤ end) × (end ≤ length words.now) }
-    ensures { rows.new ≡ store_rows rows.old first (word_rows 0 (slice from end words.now)) }
+fn store_groups(samples: Samples, rows: &mut [u32], first: usize)
+    ensures { rows.new ≡ store_rows rows.old first (word_rows 0 (slice samples.entry.from samples.entry.end samples.entry.words.now)) }
 {
+    let Samples { words, from, end } = samples;
     let most = fitting(end - from, first, rows.len() / 4);
     let mut head: u32 = 0;
     for i in 0..most {

@@ -28,7 +28,8 @@ returns-in_err-check_channel c =
 pub returns-then-time-channel : goal.returns-then-time-channel
 returns-then-time-channel c =
     let next : c.args.packet.start + (2 * c.loop-pair.pair + 1) ≡ c.args.packet.start + 2 * c.loop-pair.pair + 1 = omega arith in
-    let none : 0 ≡ fault_of pair_format c.loop-pair.blocked c.word-energy.result = passed_test _ (c.args.packet.start + 2 * c.loop-pair.pair) c.in_ok-check_channel.ensures ∙ rw c.pair_energies-format.ensures in (
+    let none : 0 ≡ fault_of pair_format c.loop-pair.blocked c.word-energy.result
+    = passed_test _ (c.args.packet.start + 2 * c.loop-pair.pair) c.in_ok-check_channel.ensures ∙ rw c.pair_energies-format.ensures in (
       pair_stop_2 c.loop-pair.invariant (omega arith) c.args.packet.inside c.word-energy.ensures.0 c.word-energy.ensures.1 (c.word-time.ensures.0 ∙ rw next)
           none _ c.if-time-channel.true c.refuse.ensures,
       rw c.refuse.ensures tt,
@@ -38,7 +39,8 @@ pub loop-pair-preserved : goal.loop-pair-preserved
 loop-pair-preserved c =
     let p = c.args.packet in
     let next : p.start + (2 * c.loop-pair.pair + 1) ≡ p.start + 2 * c.loop-pair.pair + 1 = omega arith in
-    let none : 0 ≡ fault_of pair_format c.loop-pair.blocked c.word-energy.result = passed_test _ (p.start + 2 * c.loop-pair.pair) c.in_ok-check_channel.ensures ∙ rw c.pair_energies-format.ensures in
+    let none : 0 ≡ fault_of pair_format c.loop-pair.blocked c.word-energy.result
+    = passed_test _ (p.start + 2 * c.loop-pair.pair) c.in_ok-check_channel.ensures ∙ rw c.pair_energies-format.ensures in
     let at : p.start + 2 * (c.loop-pair.pair + 1) ≡ p.start + 2 * c.loop-pair.pair + 2 = omega arith in
     let rows : p.count + 2 * (c.loop-pair.pair + 1) - 1 ≡ p.count + 2 * c.loop-pair.pair - 1 + 2 = omega arith in
     rw (at, rows)

@@ -10,10 +10,10 @@ pub loop-i-init : goal.loop-i-init
 loop-i-init c = (omega arith, refl, laid_begin)
 
 pub overflow_add-from : goal.overflow_add-from
-overflow_add-from c = omega (arith, c.fitting-most.ensures, c.requires)
+overflow_add-from c = omega (arith, c.fitting-most.ensures, c.args.samples.inside)
 
 pub word-w-requires : goal.word-w-requires
-word-w-requires c = omega (arith, c.fitting-most.ensures, c.requires)
+word-w-requires c = omega (arith, c.fitting-most.ensures, c.args.samples.inside)
 
 pub overflow_add-first : goal.overflow_add-first
 overflow_add-first c = omega (arith, c.fitting-most.ensures)
@@ -26,9 +26,9 @@ loop-i-preserved c =
     let e = c.args in
     let v = c.loop-i.invariant in
     let w = c.word-w.ensures in
-    let inside : e.from + c.loop-i.i < e.end = omega (arith, c.fitting-most.ensures) in
+    let inside : e.samples.from + c.loop-i.i < e.samples.end = omega (arith, c.fitting-most.ensures) in
     let put = c.store_row.ensures ∙ ap (store_row c.loop-i.rows (e.first + c.loop-i.i)) c.word_row.ensures in
-    (picked_below c.pick-head.ensures w.1 v.0, c.store_row.auto.rows ∙ v.1, laid_next v.2 inside c.requires.1 w.0 put c.pick-head.ensures)
+    (picked_below c.pick-head.ensures w.1 v.0, c.store_row.auto.rows ∙ v.1, laid_next v.2 inside c.args.samples.inside w.0 put c.pick-head.ensures)
 
 pub shape_of-rows : goal.shape_of-rows
 shape_of-rows c = c.loop-i.invariant.1
@@ -36,4 +36,4 @@ shape_of-rows c = c.loop-i.invariant.1
 pub returns : goal.returns
 returns c =
     let all : c.loop-i.i ≡ c.fitting-most.result = omega arith in
-    laid_all c.loop-i.invariant.2 c.requires.0 (all ∙ c.fitting-most.ensures)
+    laid_all c.loop-i.invariant.2 c.args.samples.ordered (all ∙ c.fitting-most.ensures)

@@ -70,9 +70,16 @@ pub returns-in-VmeAdc : goal.returns-in-VmeAdc
 returns-in-VmeAdc c = known (goal.at.returns-in-VmeAdc c).In-Some vme_adc (ap number c.in-VmeAdc.is) c.open_vme_adc.ensures
 
 pub returns-in-FocalPlaneTime : goal.returns-in-FocalPlaneTime
-returns-in-FocalPlaneTime c = ⊎_elim (λ e. opened focal_plane_time e refl) (⊎_elim (λ e. opened intermediate_crdc e refl) (⊎_elim (λ e. opened target_pin e refl) (⊎_elim (λ e. opened intermediate_track e refl) (⊎_elim (λ e. opened intermediate_ppac e refl) (λ e. opened object_scintillator e refl))))) c.in-FocalPlaneTime.is
+returns-in-FocalPlaneTime c =
+    ⊎_elim (λ e. opened focal_plane_time e refl)
+    (⊎_elim (λ e. opened intermediate_crdc e refl)
+    (⊎_elim (λ e. opened target_pin e refl)
+    (⊎_elim (λ e. opened intermediate_track e refl)
+    (⊎_elim (λ e. opened intermediate_ppac e refl)
+    (λ e. opened object_scintillator e refl))))) c.in-FocalPlaneTime.is
   where
-    opened : (k : Opaque) {t : Tag} → c.in-Some.tag ≡ t → number t ≡ tag (opaque k) → OpensPacket c.args.words.now c.args.start c.args.count c.args.rows.now c.open_opaque.new.rows c.open_opaque.result
+    opened : (k : Opaque) {t : Tag} → c.in-Some.tag ≡ t → number t ≡ tag (opaque k)
+        → OpensPacket c.args.words.now c.args.start c.args.count c.args.rows.now c.open_opaque.new.rows c.open_opaque.result
     opened k e n = known (goal.at.returns-in-FocalPlaneTime c).In-Some (opaque k) (ap number e ∙ n) (c.open_opaque.ensures k (ap number e ∙ n))
 
 pub returns-in-Event : goal.returns-in-Event
@@ -82,4 +89,10 @@ returns-in-Event c =
   where
     barred : (c.in-Some.tag ≡ is.Event) ⊎ (c.in-Some.tag ≡ is.Timestamp) ⊎ (c.in-Some.tag ≡ is.EventNumber) ⊎ (c.in-Some.tag ≡ is.IonChamberEnergies) ⊎ (c.in-Some.tag ≡ is.CrdcSamples)
         ⊎ (c.in-Some.tag ≡ is.CrdcAnode) → eqb c.word-2.result (tag (form_of c.word-2.result)) ≡ false
-    barred = ⊎_elim (λ e. rw (c.in-Some.ensures, e)) (⊎_elim (λ e. rw (c.in-Some.ensures, e)) (⊎_elim (λ e. rw (c.in-Some.ensures, e)) (⊎_elim (λ e. rw (c.in-Some.ensures, e)) (⊎_elim (λ e. rw (c.in-Some.ensures, e)) (λ e. rw (c.in-Some.ensures, e))))))
+    barred =
+        ⊎_elim (λ e. rw (c.in-Some.ensures, e))
+        (⊎_elim (λ e. rw (c.in-Some.ensures, e))
+        (⊎_elim (λ e. rw (c.in-Some.ensures, e))
+        (⊎_elim (λ e. rw (c.in-Some.ensures, e))
+        (⊎_elim (λ e. rw (c.in-Some.ensures, e))
+        (λ e. rw (c.in-Some.ensures, e))))))
