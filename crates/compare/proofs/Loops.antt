@@ -99,9 +99,6 @@ pub record Filling {A : Type 0} (numbers : A → List ℕ) (w : ℕ) (all : List
   pub room : found + length left ≡ length all
   pub rest : sets list (w * found) (entries numbers left) ≡ sets before 0 (entries numbers all)
 
-pub fill_start : {A : Type 0} (numbers : A → List ℕ) (w : ℕ) (all : List (Difference A)) (before : List ℕ) → Filling numbers w all before all 0 before
-fill_start numbers w all before = let e : w * 0 ≡ 0 = omega arith in record { size = refl; room = zero-add (length all); rest = rw e }
-
 module _ {A : Type 0} {numbers : A → List ℕ} {w : ℕ} {all : List (Difference A)} {before : List ℕ} {d : Difference A} {left : List (Difference A)} {found : ℕ} {list : List ℕ}
     (f : Filling numbers w all before (d ∷ left) found list) where
   pub fill_room : found + 1 ≤ length all
