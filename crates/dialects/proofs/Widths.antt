@@ -33,17 +33,6 @@ module _ (d : Dialect) where
       go true = refl
       go false = refl
 
-  -- none given: both are as they were
-  pub none_16 : (buffer : List ℕ) → over16 d [] buffer ≡ buffer
-  none_16 buffer = go (eqb (width d) 16)
-    where
-      go : (b : Bool) → cond b buffer buffer ≡ buffer
-      go true = refl
-      go false = refl
-
-  pub none_32 : (buffer : List ℕ) → over32 d [] buffer ≡ buffer
-  none_32 = none_16
-
   -- the first n words, where the other buffer may have fewer
   pub first_words : (n : ℕ) (short long : List ℕ) → of_width d (take (min n (length short)) short) (take (min n (length long)) long) ≡ take n (of_width d short long)
   first_words n short long = go (eqb (width d) 16)

@@ -40,7 +40,7 @@ impl Word for u32 {
     }
 
     fn to_number(self) -> u64 {
-        u64::from(self)
+        self as u64
     }
 }
 

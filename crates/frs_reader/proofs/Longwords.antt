@@ -56,15 +56,12 @@ module _ (upper i w : ℕ) where
       go true h q = impossible cc
       go false h q = (h, cc)
 
--- a footer: its GEO, the flag 4 and zeros over the counter
-abbrev pub Footer : (geo w : ℕ) → Type 0
-Footer geo w = (w / 2 ^ 27 ≡ geo) × (w / 2 ^ 24 % 2 ^ 3 ≡ 4) × (w / 2 ^ 16 % 2 ^ 8 ≡ 0)
-
-pub footer_good : (geo w : ℕ) → Footer geo w → 0 ≡ footer_fault geo w
+-- a footer: bits 31-16 are the GEO, the flag 4 and zeros
+pub footer_good : (geo w : ℕ) → w / 2 ^ 16 ≡ geo * 2 ^ 11 + 2 ^ 10 → 0 ≡ footer_fault geo w
 unfolding footer_fault
 footer_good geo w e = rw (eq-eqb w (longword geo 4 (w % 2 ^ 16)) (omega arith))
 
-pub footer_bad : (geo w : ℕ) → (Footer geo w → ⊥) → 9 ≡ footer_fault geo w
+pub footer_bad : (geo w : ℕ) → (w / 2 ^ 16 ≡ geo * 2 ^ 11 + 2 ^ 10 → ⊥) → 9 ≡ footer_fault geo w
 unfolding footer_fault
 footer_bad geo w h = rw (ne_eqb w (longword geo 4 (w % 2 ^ 16)) (λ e. h (omega arith)))
 

@@ -46,13 +46,13 @@ pub(crate) fn data_under(upper: u32, words: &[u32], at: usize) -> Result<u32, Re
     Ok(w % 0x0001_0000)
 }
 
-// The footer of the module with this GEO: flag 4 over bits 23-16 zero.
+// The footer of the module with this GEO: flag 4 over bits 23-16 zero. One comparison: with its fields compared one by one, which asks for no bound of the GEO, the
+// loop over the data longwords, which is compiled with it, took half a nanosecond a longword more.
 pub(crate) fn check_footer(geo: u32, w: u32, place: usize) -> Result<(), Refusal>
+    requires { geo < 32 }
     ensures { result ≡ verdict (footer_fault geo w) place }
 {
-    let flag = flag_of(w);
-    let zeros = w / 0x0001_0000 % 256;
-    if geo_of(w) != geo || flag != 4 || zeros != 0 {
+    if w / 0x0001_0000 != geo * 0x0800 + 0x0400 {
         return refuse(Fault::Inner, place);
     }
     Ok(())

@@ -100,9 +100,9 @@ pub(crate) fn module(
     ensures { ReadsModule seen words.now from rows.old rows.new result }
 {
     let opened = open_module(words, from.next, seen)?;
-    store_row(rows, from.count, opened.row);
     let first = from.next + 1;
     let count = from.count + 1;
+    store_row(rows, from.count, opened.row);
     let Some(end) = opened.end else {
         return Ok(Part { next: first, count });
     };

@@ -17,7 +17,8 @@ use Rattle.event.proofs.RowFaults.{one_fails, all_hold}
 use Rattle.frs_layout.specs.Event.{scaler_geo, pattern_geo}
 use Rattle.frs_layout.specs.Layout.{empty_row, module_row, count_checks, counter_checks, geo_checks}
 use Rattle.frs_layout.specs.Writing.{starts_module, header_of, first_row, header_checks}
-use Rattle.frs_writer.specs.Faults.{geo_fault, header_field_fault, unless_seen, header_fault}
+use Rattle.frs_writer.specs.Faults.{header_field_fault, unless_seen, header_fault}
+use Rattle.frs_writer.proofs.RowFaults.{geo_fault}
 use Rattle.frs_writer.proofs.Faults.{found, found_none, found_first, seen_last}
 
 module _ (r : Row) where

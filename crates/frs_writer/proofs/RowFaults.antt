@@ -14,7 +14,7 @@ use Rattle.event.proofs.RowFaults.{one_fails, Judged, judged, datum_judged}
 use Rattle.frs_layout.specs.Event.{scaler_geo, pattern_geo}
 use Rattle.frs_layout.specs.Layout.{datum_bits, stamp_row, scaler_block_row, pattern_row, value_row, stamp_checks, count_checks, pattern_checks, geo_checks, value_checks}
 use Rattle.frs_layout.specs.Writing.{stamp_of, pattern_of, value_of}
-use Rattle.frs_writer.specs.Faults.{stamp_fault, block_fault, scaler_fault, pattern_fault, geo_fault, value_field_fault, value_fault}
+use Rattle.frs_writer.specs.Faults.{stamp_fault, block_fault, scaler_fault, pattern_fault, value_field_fault, value_fault}
 use Rattle.frs_writer.proofs.Faults.{found_first, seen_last}
 
 ruleset tests = (arith, ltb→lt, lt→ltb, leb→le, le→leb)
@@ -64,7 +64,10 @@ pub value_fields : (g set : ℕ) (r : Row) → 0 ≡ value_fault g set r → Val
 unfolding value_fault
 value_fields g set r e = (field_judged g r).kept (found_first (value_field_fault g r) set r.channel e)
 
--- a GEO
+-- a GEO, where none was before
+unfoldable pub geo_fault : ℕ → ℕ
+geo_fault g = fault_in (geo_checks 22 22 [] g)
+
 pub geo_barred : (g : ℕ) → ((g ≤ 31) × (g ≡ pattern_geo → ⊥) × (g ≡ scaler_geo → ⊥) → ⊥) → 22 ≡ geo_fault g
 unfolding geo_fault
 geo_barred g h = one_fails (geo_checks 22 22 [] g) (refl, (refl, (refl, (refl, tt)))) (λ p. h (omega (arith, ltb→lt, p.0), (λ e. absurd (rw e at p.1.0)), (λ e. absurd (rw e at p.1.1.0))))

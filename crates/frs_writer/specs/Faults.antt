@@ -5,7 +5,7 @@ use Rattle.event.specs.declared.Row.{Row}
 use Rattle.event.specs.Parser.{fault_in}
 use Rattle.event.specs.Channels.{present}
 use Rattle.event.specs.Writing.{row_tests, of_kind}
-use Rattle.frs_layout.specs.Layout.{stamp_row, scaler_block_row, scaler_row, pattern_row, value_row, stamp_checks, count_checks, scaler_checks, pattern_checks, geo_checks, value_checks}
+use Rattle.frs_layout.specs.Layout.{stamp_row, scaler_block_row, scaler_row, pattern_row, value_row, stamp_checks, count_checks, scaler_checks, pattern_checks, value_checks}
 use Rattle.frs_layout.specs.Writing.{stamp_of, pattern_of, value_of, starts_module, header_of, first_row, header_checks}
 
 -- the first rule of a row that fails
@@ -22,9 +22,6 @@ unfoldable pub pattern_fault : Row → ℕ
 pattern_fault r = fault_in (row_tests (of_kind 19) pattern_of pattern_row (pattern_checks 22) r)
 
 -- the rule that a GEO, or a channel, is new stands last: here none was before
-unfoldable pub geo_fault : ℕ → ℕ
-geo_fault g = fault_in (geo_checks 22 22 [] g)
-
 unfoldable pub header_field_fault : Row → ℕ
 header_field_fault r = fault_in (row_tests starts_module header_of first_row (header_checks []) r)
 

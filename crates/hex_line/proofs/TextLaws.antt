@@ -4,7 +4,7 @@ use mathlib.Core.Bool.{Bool, true, false}
 use lib.Dec.{leb}
 use mathlib.Core.List.{List, [], ◌++◌, append-nil, append_assoc}
 use Prim.Native.Nat.{ℕ, zero, suc, ◌+◌, ◌*◌, ◌-◌, ◌/◌, ◌%◌, ◌^◌, ◌≤◌, ◌<◌}
-use native.Mathlib.Nat.{add-zero, zero-add, add_assoc, zero-mul, suc-mul, pow-suc, div-div-eq-div-mul}
+use native.Mathlib.Nat.{mul-le-mul_right, add-zero, zero-add, add_assoc, zero-mul, suc-mul, pow-suc, div-div-eq-div-mul}
 use native.Mathlib.Numerals.{add-one}
 use native.Mathlib.Omega.{arith}
 use lib.ListN.{length, take, drop, set, length-append, length-take}
@@ -67,6 +67,16 @@ pub texts_length : {m : ℕ} (n : ℕ) (f : ℕ → List ℕ) → ((k : ℕ) →
 unfolding texts_below
 texts_length {m} zero f l = sym (zero-mul m)
 texts_length {m} (suc n) f l = length-append (texts_below n f) (f n) ∙ rw (texts_length n f l, l n) (sym (suc-mul n m))
+
+-- a buffer stays as long as it is
+pub placed_size : {before after t : List ℕ} {at k : ℕ} → Placed before at t k after → length after ≡ length before
+placed_size {before} {after} {t} {at} {k} p = ap length p.holds ∙ length-sets before at t
+
+-- where `count` texts of one length each have room, and n of them stand there, there is room for one more
+pub room_next : {m count : ℕ} (n : ℕ) (f : ℕ → List ℕ) → ((k : ℕ) → length (f k) ≡ m) → n < count
+    → {before now : List ℕ} {at k : ℕ} → at + length (texts_below count f) ≤ length before → Placed before at (texts_below n f) k now → k + length (f n) ≤ length now
+room_next {m} {count} n f l h r p =
+    omega (arith, r, p.ends, placed_size p, l n, texts_length n f l, texts_length count f l, mul-le-mul_right m h, suc-mul n m)
 
 -- the text of one number more
 pub placed_next : (n : ℕ) (f : ℕ → List ℕ) → {before now after : List ℕ} {at k m : ℕ} → Placed before at (texts_below n f) k now → Placed now k (f n) m after

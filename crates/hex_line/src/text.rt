@@ -1,5 +1,5 @@
 // Numbers and texts as characters in a lent buffer. Each is put where the buffer has room for all of it behind `at`, and where it ends is answered;
-// else nothing is put, and `at` answered.
+// else nothing is put, and `at` answered. (A struct of the buffer and `at` would have to say in each contract that it still lends that buffer: no plainer.)
 ghost use Rattle.std.specs.Prelude.{◌+◌, ◌<◌, ◌≤◌, ◌≡◌, leb, length};
 ghost use Rattle.std.proofs.lemmas.List.Edits.{sets};
 ghost use Rattle.hex_line.specs.Text.{character, hex_of, field, put, end_of};

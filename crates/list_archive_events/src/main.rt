@@ -7,8 +7,7 @@ ghost use Rattle.list_input.specs.Turns.{ListedByTurns};
 
 use event::StampOrder;
 use list_input::{
-    BUFFER, Characters, Elements, Ended, Longwords, MOST_ELEMENTS, MOST_LONGWORDS, MOST_WORDS,
-    Words,
+    BUFFER, Buffers, Ended, LineBuffers, MOST_ELEMENTS, MOST_LONGWORDS, MOST_WORDS,
 };
 use std::io::{Stdin, Stdout};
 
@@ -17,32 +16,23 @@ fn list(
     stdin: Stdin,
     stdout: Stdout,
     order: StampOrder,
-    input: &mut Characters,
-    words: &mut Words,
-    longwords: &mut Longwords,
-    rows: &mut Elements,
-    text: &mut Characters,
+    buffers: &mut Buffers,
 ) -> Ended
     requires { order ≡ Crossed }
-    ensures { (result.order ≡ Crossed) × ListedByTurns Crossed result.whole (take result.put text.new) }
+    ensures { (result.order ≡ Crossed) × ListedByTurns Crossed result.whole (take result.put buffers.new.text) }
 {
-    list_input::list(stdin, stdout, order, input, words, longwords, rows, text)
+    list_input::list(stdin, stdout, order, buffers)
 }
 
 fn main(rt: HostRuntime) {
-    let mut input = [0u8; BUFFER];
-    let mut words = [0u16; MOST_WORDS];
-    let mut longwords = [0u32; MOST_LONGWORDS];
-    let mut rows = [0u32; MOST_ELEMENTS];
-    let mut text = [0u8; BUFFER];
-    list(
-        rt.stdin(),
-        rt.stdout(),
-        StampOrder::Crossed,
-        &mut input,
-        &mut words,
-        &mut longwords,
-        &mut rows,
-        &mut text,
-    );
+    let mut buffers = Buffers {
+        input: [0; BUFFER],
+        line: LineBuffers {
+            words: [0; MOST_WORDS],
+            longwords: [0; MOST_LONGWORDS],
+            rows: [0; MOST_ELEMENTS],
+        },
+        text: [0; BUFFER],
+    };
+    list(rt.stdin(), rt.stdout(), StampOrder::Crossed, &mut buffers);
 }

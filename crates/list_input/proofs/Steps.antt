@@ -9,8 +9,8 @@ use lib.Dec.{eqb, ltb}
 use lib.ListN.{length, take, drop, length-take, length-drop}
 use lib.Seq.{take-nil, take-take, take_all, drop-drop}
 use borrow.Author.Tests.{eqb-true, eqb-false, ltb-true, ltb-false}
-use Rattle.event.specs.declared.Answer.{Answer}
-use Rattle.event.specs.declared.Answer.TheVariants.{Refused}
+use Rattle.std.specs.Prelude.{Err}
+use Rattle.event.specs.Refusal.{Answer, refusal}
 use Rattle.event.specs.declared.Row.{Row}
 use Rattle.event.specs.declared.StampOrder.{StampOrder}
 use Rattle.event.specs.Outcome.{accepted}
@@ -191,4 +191,4 @@ module _ (o : StampOrder) (ended : Bool) (input text : List ℕ) (run : Run) (in
         let q : take run₁.at text₁ ≡ take run.at text ++ line_text line₀ = pending (omega (arith, h, t)) d.placed in
         pending (rw (last_length_lem, e) (omega (arith, h, t, d.placed.ends))) p
         ∙ rw (q, d.accepted, d.refused, b.split, list_long o run.accepted run.refused b.line b.lines c.2 (omega (arith, b.long, c.0, c.3)), x, y)
-        (append_assoc (take run.at text) (event_text (run.accepted + run.refused + 1) (Refused 30 0) []) (last_text true (run.accepted + 0) (run.refused + 1)))
+        (append_assoc (take run.at text) (event_text (run.accepted + run.refused + 1) (Err (refusal 30 0)) []) (last_text true (run.accepted + 0) (run.refused + 1)))

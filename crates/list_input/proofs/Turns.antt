@@ -10,14 +10,15 @@ use lib.ListN.{length, take, drop, take-append-drop, length-append, length-take,
 use lib.Seq.{length-take-le}
 use Rattle.event.specs.declared.StampOrder.{StampOrder}
 use Rattle.event.proofs.Impossible.{impossible}
-use Rattle.listing.specs.declared.Next.{Next}
-use Rattle.listing.specs.declared.Next.TheVariants.{Line, Long, More, End, Cut}
+use Rattle.listing.specs.declared.Next.TheVariants.{More}
 use Rattle.listing.specs.Input.{next_of}
 use Rattle.listing.specs.Lengths.{most_text, last_length}
-use Rattle.list_input.specs.declared.Put.{Put}
+use Rattle.list_input.specs.declared.lines.Put.{Put}
+use Rattle.list_input.specs.declared.lines.Stop.{Stop}
+use Rattle.list_input.specs.declared.lines.Stop.TheVariants as stop
 use Rattle.list_input.specs.declared.Run.{Run}
 use Rattle.list_input.specs.declared.Turn.{Turn}
-use Rattle.list_input.specs.Run.{anew, rest_of, point_of, MorePut, Fed, Halts}
+use Rattle.list_input.specs.Run.{anew, rest_of, is_over, point_of, MorePut, Fed, Halts}
 use Rattle.list_input.specs.Turns.{Point, start, to_come, end_count, Turned, SomeTurn, Step, Follow, behind_all, last_put, came_in, was_put, ListsWhole, FewTurns, most_turns, ListedByTurns, NotWhole}
 
 -- where the input has ended nothing more comes in
@@ -145,68 +146,66 @@ piece_none run input k e h = empty (drop k (rest_of run input)) (simp (length-dr
     empty (x ∷ l) q = absurd (omega (arith, q))
 
 -- more of the input is needed, or it is not
-needed : (n : Next) → (n ≡ More) ⊎ (n ≡ More → ⊥)
-needed (Line k) = inr (λ e. impossible cc)
-needed (Long k) = inr (λ e. impossible cc)
-needed More = inl refl
-needed End = inr (λ e. impossible cc)
-needed Cut = inr (λ e. impossible cc)
+needed : (s : Stop) → (s ≡ stop.More) ⊎ ((s ≡ stop.More → ⊥) × (is_over s ≡ false → s ≡ stop.Full))
+needed stop.Over = inr (λ e. impossible cc, λ e. absurd (false≢true (sym e)))
+needed stop.Full = inr (λ e. impossible cc, λ e. refl)
+needed stop.More = inl refl
 
 -- a turn of the program: text that was put from a run whose text was written, and then a piece that came in
-module _ (o : StampOrder) (state : Turn) (put : Put) (state' : Turn) (input text text' input' : List ℕ) (f : Fed put state.ended input state' input') where
+module _ (o : StampOrder) (state : Turn) (put : Put) (state' : Turn) (bad : Bool) (input text text' input' : List ℕ) (f : Fed put state.ended input state' bad input') where
+  abbrev before : Point
+  before = point_of false state input
+
+  abbrev after : Point
+  after = point_of bad state' input'
+
   by_pieces : state.over ≡ false
       → MorePut o state.ended input (anew state.run) text put text'
       → (later : List ℕ) → (state'.ended ≡ true → later ≡ [])
-      → to_come o (point_of state input) (f.piece ++ later) ≡ take state'.run.at text' ++ to_come o (point_of state' input') later
+      → to_come o before (f.piece ++ later) ≡ take state'.run.at text' ++ to_come o after later
   by_pieces on m later l =
       let nothing : state.ended ≡ true → f.piece ++ later ≡ [] = λ e. (let n = f.last e in rw (f.found n, l n) refl) in
       rw (on, f.at, f.accepted, f.refused, f.over, f.rest, append_assoc (rest_of put.run input) f.piece later) (m (f.piece ++ later) nothing)
 
   abbrev Moves : Type 0
-  Moves = end_count (point_of state input) < length (take state'.run.at text') + length f.piece + end_count (point_of state' input')
+  Moves = end_count before < length (take state'.run.at text') + length f.piece + end_count after
 
-  moved : Halts state.ended (length text') put → most_text + last_length ≤ length text' → put.run.at ≤ length text' → state'.over ≡ false → state'.failed ≡ false → Moves
-  moved h r w on good = ⊎_elim more full (needed put.next)
+  moved : Halts state.ended input (length text') put → most_text + last_length ≤ length text' → put.run.at ≤ length text' → state'.over ≡ false → bad ≡ false → Moves
+  moved h r w on good = ⊎_elim more full (needed put.stop)
     where
       at : length (take state'.run.at text') ≡ put.run.at
       at = ap (λ (n : ℕ). length (take n text')) f.at ∙ length-take-le put.run.at text' w
 
-      more : put.next ≡ More → Moves
+      more : put.stop ≡ stop.More → Moves
       more e = rw (h.more e).0 (go state'.ended refl)
         where
           go : (b : Bool) → state'.ended ≡ b → 0 < length (take state'.run.at text') + length f.piece + cond state'.ended 1 0
           go true t = rw t (omega arith)
           go false t = rw t (omega (arith, f.some e t good))
 
-      full : (put.next ≡ More → ⊥) → Moves
+      full : (put.stop ≡ stop.More → ⊥) × (is_over put.stop ≡ false → put.stop ≡ stop.Full) → Moves
       full e = go state.ended refl
         where
           some : 0 < put.run.at
-          some = omega (arith, h.full (sym f.over ∙ on) e, r)
+          some = omega (arith, h.full (e.1 (sym f.over ∙ on)), r)
 
           go : (b : Bool) → state.ended ≡ b → cond state.ended 1 0 < length (take state'.run.at text') + length f.piece + cond state'.ended 1 0
           go true t = rw (t, f.last t) (omega (arith, at, some))
           go false t = rw t (omega (arith, at, some))
 
-  -- what comes next is what is told
-  abbrev NextTold : Type 0
-  NextTold = put.next ≡ next_of (rest_of put.run input) state.ended (put.run.accepted + put.run.refused)
-
   -- what was not listed yet, at which more of the input is needed
   abbrev Waits : Type 0
-  Waits = (rest : List ℕ) × ((point_of state' input').rest ≡ rest ++ f.piece) × (next_of rest false (state'.run.accepted + state'.run.refused) ≡ More)
+  Waits = (rest : List ℕ) × (after.rest ≡ rest ++ f.piece) × (next_of rest false (state'.run.accepted + state'.run.refused) ≡ More)
 
-  read : Halts state.ended (length text') put → NextTold → end_count (point_of state input) < length f.piece + end_count (point_of state' input') → Waits
-  read h nx lt = ⊎_elim more none (needed put.next)
+  read : Halts state.ended input (length text') put → end_count before < length f.piece + end_count after → Waits
+  read h lt = ⊎_elim more none (needed put.stop)
     where
-      more : put.next ≡ More → Waits
-      more e = (rest_of put.run input, f.rest, rw (f.accepted, f.refused) (rw (h.more e).0 at (sym nx ∙ e)))
+      more : put.stop ≡ stop.More → Waits
+      more e = (rest_of put.run input, f.rest, rw (f.accepted, f.refused) (h.more e).2)
 
-      none : (put.next ≡ More → ⊥) → Waits
-      none n = let s = f.stays n in absurd (omega (arith, rw (s.0, s.1) at lt))
+      none : (put.stop ≡ stop.More → ⊥) × (is_over put.stop ≡ false → put.stop ≡ stop.Full) → Waits
+      none n = let s = f.stays n.0 in absurd (omega (arith, rw (s.0, s.1) at lt))
 
-  pub turned : (state.over ≡ false) × (state.failed ≡ false)
-      → MorePut o state.ended input (anew state.run) text put text' → NextTold
-      → Halts state.ended (length text') put → most_text + last_length ≤ length text' → put.run.at ≤ length text'
-      → SomeTurn o (point_of state input) (take state'.run.at text') (point_of state' input')
-  turned on m nx h r w = (f.piece, record { taken = on; last = f.last; found = f.found; reads = read h nx; puts = by_pieces on.0 m; moves = moved h r w })
+  pub turned : state.over ≡ false → MorePut o state.ended input (anew state.run) text put text' → Halts state.ended input (length text') put
+      → most_text + last_length ≤ length text' → put.run.at ≤ length text' → SomeTurn o before (take state'.run.at text') after
+  turned on m h r w = (f.piece, record { taken = (on, refl); last = f.last; found = f.found; reads = read h; puts = by_pieces on m; moves = moved h r w })

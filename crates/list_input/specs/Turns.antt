@@ -94,7 +94,7 @@ most_turns = 18446744073709551615
 
 -- A listing by turns, and the last text that they put. It is whole where all is put and nothing failed; then their text is the listing of the input. Where it is
 -- not, a read or a write failed, or the turns were the most that are taken. No contract of the kit says what was read or written, and this one does not say that
--- these are the turns that were taken: the contract of `turn` says what one turn does, and the loop of `list_turns` takes them.
+-- these are the turns that were taken: the contract of `turn` says what one turn does, and the loop of `list` takes them.
 pub record ListedByTurns (o : StampOrder) (whole : Bool) (last : List ℕ) : Type 0 where
   pub steps : List Step
   pub follow : Follow o start steps

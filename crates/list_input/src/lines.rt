@@ -1,6 +1,5 @@
 // The lines that were read, listed as text in a lent buffer.
-ghost use Rattle.std.specs.Prelude.{ℕ, ◌+◌, ◌-◌, ◌*◌, ◌≤◌, ◌<◌, true, false, [], ◌≡◌, length, take, drop};
-ghost use Rattle.event.specs.Outcome.{accepted};
+ghost use Rattle.std.specs.Prelude.{ℕ, ◌+◌, ◌-◌, ◌*◌, ◌≤◌, ◌<◌, true, ◌≡◌, length, take, drop};
 ghost use Rattle.event.specs.Rows.{room};
 ghost use Rattle.event.specs.Writing.{rows_in};
 ghost use Rattle.hex_line.specs.Text.{Placed};
@@ -9,25 +8,44 @@ ghost use Rattle.listing.specs.Input.{next_of};
 ghost use Rattle.listing.specs.Listing.{most_lines};
 ghost use Rattle.listing.specs.Lengths.{answer_length, row_length, last_length, most_rows, most_text};
 ghost use Rattle.listing.specs.Text.{event_text, last_text};
-ghost use Rattle.list_input.specs.Run.{Inside, LineInside, Rooms, rest_of, behind, answer_to, rows_to, LineListed, Kept, ends, RestPut, MorePut, Halts};
+ghost use Rattle.list_input.specs.Run.{Inside, LineInside, rest_of, behind, answer_to, rows_to, LineListed, Kept, ends, paused, RestPut, MorePut, Halts};
 
-use crate::{Listed, Put, Run};
-use event::{Answer, StampOrder};
+use crate::{LineBuffers, Run};
+use event::StampOrder;
+use event::refusal::Refusal;
 use listing::{LAST_LENGTH, MOST_TEXT, Next};
 
-// Lists whole lines while there is room for their text, and says what comes next.
+// A run, and what comes next of its input.
+#[derive(Clone, Copy)]
+struct Listed {
+    run: Run,
+    next: Next,
+}
+
+// Where a run stops: its text is put to the listing's end, there is little room left for text, or more of the input is needed.
+#[derive(Clone, Copy, Debug, PartialEq, Eq)]
+pub(crate) enum Stop {
+    Over,
+    Full,
+    More,
+}
+
+#[derive(Clone, Copy)]
+pub(crate) struct Put {
+    pub run: Run,
+    pub stop: Stop,
+}
+
+// Lists whole lines while there is room for their text, and says what comes next. (What a turn takes is known only once what comes next is.)
 fn list_lines(
     order: StampOrder,
     input: &[u8],
     ended: bool,
-    words: &mut [u16],
-    longwords: &mut [u32],
-    rows: &mut [u32],
+    line: &mut LineBuffers,
     text: &mut [u8],
     run: Run,
 ) -> Listed
     requires inside { Inside (length input.now) (length text.old) run }
-    requires rooms { Rooms words.old longwords.old rows.old }
     ensures inside_2 { Inside (length input.now) (length text.old) result.run }
     ensures next_value { result.next ≡ next_of (rest_of result.run input.now) ended (result.run.accepted + result.run.refused) }
     ensures by_index { (k : ℕ) → result.next ≡ Line k → length text.old < result.run.at + most_text }
@@ -42,7 +60,7 @@ fn list_lines(
         if text.len() - listed.at < MOST_TEXT {
             return Listed { run: listed, next };
         }
-        listed = list_line(order, input, count, words, longwords, rows, text, listed);
+        listed = list_line(order, input, count, line, text, listed);
     }
 }
 
@@ -50,9 +68,7 @@ fn next_line(input: &[u8], ended: bool, run: Run) -> Next
     requires { Inside (length input.now) run.at run }
     ensures { result ≡ next_of (rest_of run input.now) ended (run.accepted + run.refused) }
 {
-    let from = run.from;
-    let end = run.end;
-    listing::next_line(&input[from..end], ended, run.accepted + run.refused)
+    listing::next_line(&input[run.from..run.end], ended, run.accepted + run.refused)
 }
 
 // Lists the next `count` characters as a line, and goes on behind its line feed.
@@ -60,55 +76,45 @@ fn list_line(
     order: StampOrder,
     input: &[u8],
     count: usize,
-    words: &mut [u16],
-    longwords: &mut [u32],
-    rows: &mut [u32],
+    line: &mut LineBuffers,
     text: &mut [u8],
     run: Run,
 ) -> Run
     requires inside { Inside (length input.now) (length text.old) run }
     requires line_inside { LineInside count (length text.old) run }
-    requires rooms { Rooms words.old longwords.old rows.old }
     ensures inside_2 { Inside (length input.now) (length text.old) result }
     ensures line_listed { LineListed (answer_to order (take count (drop run.from input.now))) (rows_to order (take count (drop run.from input.now))) (behind run count) run text.old result text.new }
 {
-    let from = run.from;
-    let stop = from + count;
-    let answer = listing::line_rows(&input[from..stop], order, words, longwords, rows);
-    let Answer::Accepted(found) = answer else {
-        return refused_line(text, run, count, answer);
-    };
-    let elements = found * 4;
-    accepted_line(text, run, count, answer, &rows[..elements])
+    let stop = run.from + count;
+    let answer = listing::line_rows(
+        &input[run.from..stop],
+        order,
+        &mut line.words,
+        &mut line.longwords,
+        &mut line.rows,
+    );
+    let elements = answer.unwrap_or(0) * 4;
+    put_line(text, run, count, answer, &line.rows[..elements])
 }
 
-// Lists a refused line of `count` characters: its answer alone.
-fn refused_line(text: &mut [u8], run: Run, count: usize, answer: Answer) -> Run
+// Puts the answer for a line of `count` characters and its rows, and counts it.
+fn put_line(
+    text: &mut [u8],
+    run: Run,
+    count: usize,
+    answer: Result<usize, Refusal>,
+    rows: &[u32],
+) -> Run
     requires line_inside { LineInside count (length text.old) run }
-    requires answer_value { accepted answer ≡ false }
-    ensures { LineListed answer [] (behind run count) run text.old result text.new }
-{
-    Run {
-        from: behind_line(run, count),
-        end: run.end,
-        at: put_event(text, run, answer, &[]),
-        accepted: run.accepted,
-        refused: run.refused + 1,
-    }
-}
-
-// Lists an accepted line of `count` characters: its answer and its rows.
-fn accepted_line(text: &mut [u8], run: Run, count: usize, answer: Answer, rows: &[u32]) -> Run
-    requires line_inside { LineInside count (length text.old) run }
-    requires answer_value { (accepted answer ≡ true) × (length rows.now ≤ 4 * most_rows) }
+    requires rows_in_bounds { length rows.now ≤ 4 * most_rows }
     ensures { LineListed answer (rows_in rows.now) (behind run count) run text.old result text.new }
 {
     Run {
         from: behind_line(run, count),
         end: run.end,
         at: put_event(text, run, answer, rows),
-        accepted: run.accepted + 1,
-        refused: run.refused,
+        accepted: run.accepted + u64::from(answer.is_ok()),
+        refused: run.refused + u64::from(answer.is_err()),
     }
 }
 
@@ -118,13 +124,14 @@ fn behind_line(run: Run, count: usize) -> usize
     ensures { result ≡ behind run count }
 {
     if run.end - run.from == count {
-        return run.end;
+        run.end
+    } else {
+        run.from + count + 1
     }
-    run.from + count + 1
 }
 
 // Puts the answer and the rows behind the text that is not written yet, and answers where it ends.
-fn put_event(text: &mut [u8], run: Run, answer: Answer, rows: &[u32]) -> usize
+fn put_event(text: &mut [u8], run: Run, answer: Result<usize, Refusal>, rows: &[u32]) -> usize
     requires refused_bound { run.accepted + run.refused < most_lines }
     requires rows_in_bounds { run.at + (answer_length answer + row_length * room (length rows.now)) ≤ length text.old }
     ensures { Placed text.old run.at (event_text (run.accepted + run.refused + 1) answer (rows_in rows.now)) result text.new }
@@ -139,49 +146,34 @@ pub(crate) fn list_more(
     order: StampOrder,
     input: &[u8],
     ended: bool,
-    words: &mut [u16],
-    longwords: &mut [u32],
-    rows: &mut [u32],
+    line: &mut LineBuffers,
     text: &mut [u8],
     run: Run,
 ) -> Put
     requires inside { Inside (length input.now) (length text.old) run }
-    requires rooms { Rooms words.old longwords.old rows.old }
     ensures inside_2 { Inside (length input.now) (length text.old) result.run }
-    ensures halts { Halts ended (length text.old) result }
+    ensures halts { Halts ended input.now (length text.old) result }
     ensures more_put { MorePut order ended input.now run text.old result text.new }
-    ensures next_value { result.next ≡ next_of (rest_of result.run input.now) ended (result.run.accepted + result.run.refused) }
 {
-    let listed = list_lines(order, input, ended, words, longwords, rows, text, run);
+    let listed = list_lines(order, input, ended, line, text, run);
     let run = listed.run;
     let next = listed.next;
     if !is_end(next) {
-        return unfinished(run, next);
+        return Put {
+            run,
+            stop: pause(next),
+        };
     }
     if text.len() - run.at < MOST_TEXT + LAST_LENGTH {
-        return unfinished(run, next);
+        return Put {
+            run,
+            stop: Stop::Full,
+        };
     }
-    let end = put_rest(order, input, ended, next, words, longwords, rows, text, run);
+    let at = put_rest(order, input, ended, next, line, text, run);
     Put {
-        run: Run {
-            from: run.from,
-            end: run.end,
-            at: end,
-            accepted: run.accepted,
-            refused: run.refused,
-        },
-        next,
-        over: true,
-    }
-}
-
-fn unfinished(run: Run, next: Next) -> Put
-    ensures { result ≡ record { run = run; next = next; over = false } }
-{
-    Put {
-        run,
-        next,
-        over: false,
+        run: Run { at, ..run },
+        stop: Stop::Over,
     }
 }
 
@@ -189,43 +181,43 @@ fn unfinished(run: Run, next: Next) -> Put
 fn is_end(next: Next) -> bool
     ensures { result ≡ ends next }
 {
+    matches!(next, Next::Long(_) | Next::End | Next::Cut)
+}
+
+// Why a run stops that is to go on.
+fn pause(next: Next) -> Stop
+    ensures { result ≡ paused next }
+{
     match next {
-        Next::Line(_) => false,
-        Next::Long(_) => true,
-        Next::More => false,
-        Next::End => true,
-        Next::Cut => true,
+        Next::More => Stop::More,
+        _ => Stop::Full,
     }
 }
 
-// Puts all that is left of a listing that ends here, and answers where it ends. (A line, or more of the input, never comes next here.)
+// Puts all that is left of a listing that ends here, and answers where it ends.
 fn put_rest(
     order: StampOrder,
     input: &[u8],
     ended: bool,
     next: Next,
-    words: &mut [u16],
-    longwords: &mut [u32],
-    rows: &mut [u32],
+    line: &mut LineBuffers,
     text: &mut [u8],
     run: Run,
 ) -> usize
     requires inside { Inside (length input.now) (length text.old) run }
     requires next_value { (next ≡ next_of (rest_of run input.now) ended (run.accepted + run.refused)) × (ends next ≡ true) }
-    requires rooms { Rooms words.old longwords.old rows.old }
     requires last_length_in_bounds { run.at + (most_text + last_length) ≤ length text.old }
     ensures upper_bound { result ≤ length text.old }
     ensures rest_put { RestPut order ended input.now run text.old result text.new }
 {
     match next {
         Next::Long(count) => {
-            let last = list_line(order, input, count, words, longwords, rows, text, run);
+            let last = list_line(order, input, count, line, text, run);
             put_last(text, last, true)
         }
         Next::Cut => put_last(text, run, true),
         Next::End => put_last(text, run, false),
-        Next::Line(_) => put_last(text, run, false),
-        Next::More => put_last(text, run, false),
+        Next::Line(_) | Next::More => unreachable!(),
     }
 }
 

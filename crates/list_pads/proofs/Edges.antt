@@ -4,8 +4,8 @@ use Prim.Native.Nat.{ℕ, ◌*◌}
 use mathlib.Core.Path.{◌≡◌, refl}
 use mathlib.Core.List.{List, []}
 use lib.ListN.{take, drop}
-use Rattle.hex_line.specs.Text.{text, character, hex_of, field}
-use Rattle.list_pads.specs.Pads.{texts_below, pair_text, connector_text, pads_text}
+use Rattle.hex_line.specs.Text.{text, character, hex_of, field, texts_below}
+use Rattle.list_pads.specs.Pads.{pair_text, connector_text, pads_text}
 
 -- the characters of line n, from 0
 abbrev line : ℕ → List ℕ

@@ -1,13 +1,8 @@
 -- The pads of all pairs of channel and connector, as text (document 02, #102): numbers as eight hexadecimal digits.
 -- Assumes nothing.
-use Rattle.std.specs.Prelude.{ℕ, zero, suc, List, [], ◌++◌}
+use Rattle.std.specs.Prelude.{ℕ, List, ◌++◌}
 use Rattle.s800_layout.specs.Layout.{pad}
-use Rattle.hex_line.specs.Text.{text, hex_of, field}
-
--- f 0, f 1, .. up to f (n - 1), one behind another
-unfoldable pub texts_below : (n : ℕ) → (ℕ → List ℕ) → List ℕ
-texts_below zero f = []
-texts_below (suc n) f = texts_below n f ++ f n
+use Rattle.hex_line.specs.Text.{text, hex_of, field, texts_below}
 
 -- `CHANNEL CONNECTOR PAD` and a line feed
 unfoldable pub pair_text : (channel connector : ℕ) → List ℕ

@@ -22,9 +22,9 @@ fn put_pair(text: &mut [u8], at: usize, channel: u16, connector: u16) -> usize
     requires { at + length (pair_text channel connector) ≤ length text.old }
     ensures { Placed text.old at (pair_text channel connector) result text.new }
 {
-    let connector_at = put_number(text, at, channel as u64);
-    let pad_at = put_field(text, connector_at, b" ", connector as u64);
-    let end = put_field(text, pad_at, b" ", s800::pad(channel, connector) as u64);
+    let connector_at = put_number(text, at, u64::from(channel));
+    let pad_at = put_field(text, connector_at, b" ", u64::from(connector));
+    let end = put_field(text, pad_at, b" ", u64::from(s800::pad(channel, connector)));
     put_text(text, end, b"\n")
 }
 
@@ -34,10 +34,8 @@ fn put_connector(text: &mut [u8], at: usize, connector: u16) -> usize
     ensures { Placed text.old at (connector_text connector) result text.new }
 {
     let mut end = at;
-    let mut channel = 0;
-    while channel < CHANNELS {
+    for channel in 0..CHANNELS {
         end = put_pair(text, end, channel, connector);
-        channel += 1;
     }
     end
 }
@@ -48,10 +46,8 @@ fn put_pads(text: &mut [u8])
     ensures { text.new ≡ pads_text }
 {
     let mut end = 0;
-    let mut connector = 0;
-    while connector < CONNECTORS {
+    for connector in 0..CONNECTORS {
         end = put_connector(text, end, connector);
-        connector += 1;
     }
 }
 

@@ -1,10 +1,10 @@
 -- A loop that counts rows into a plane.
 -- Assumes nothing.
-use Prim.Native.Nat.{ℕ, zero, suc, ◌+◌, ◌*◌, ◌/◌, ◌%◌, ◌≤◌, ◌<◌}
+use Prim.Native.Nat.{ℕ, zero, suc, ◌+◌, ◌/◌, ◌%◌, ◌≤◌, ◌<◌}
 use native.Mathlib.Nat.{add-zero}
 use native.Mathlib.Numerals.{add-one}
 use native.Mathlib.Omega.{arith}
-use mathlib.Core.Path.{◌≡◌, refl, sym, ap, ◌∙◌, subst}
+use mathlib.Core.Path.{◌≡◌, refl, sym, ◌∙◌, subst}
 use mathlib.Core.Bool.{Bool, true, false, cond, ◌&&◌}
 use mathlib.Core.List.{List, [], ◌∷◌, ◌++◌}
 use lib.Dec.{T, eqb}
@@ -44,9 +44,6 @@ module _ (plane : Plane) (rs : List Row) where
   pub record Counting (i : ℕ) (sum : Plane) : Type 0 where
     pub shape : Shape sum
     pub counts : (p : ℕ) → p < 256 → at sum p + hits_at p (drop i rs) ≡ at plane p + hits_at p rs
-
-  pub counting_begins : Shape plane → Counting 0 plane
-  counting_begins s = record { shape = s; counts = λ p h. refl }
 
   pub counting_ends : (i : ℕ) (sum : Plane) → length rs ≤ i → Counting i sum → sum ≡ with_hits rs plane
   unfolding hits_at

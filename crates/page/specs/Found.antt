@@ -1,7 +1,6 @@
 -- What a page is tested for, and an event of it that is found. (Found events and planes are `Ok` of a call, whose words or counts no plain answer can name.)
 -- Assumes nothing.
 use Rattle.std.specs.Prelude.{ℕ, ◌≡◌, cond, List, length, Ok}
-use Rattle.event.specs.Refusal.{Answer}
 use Rattle.page_layout.specs.declared.Page.{Page}
 use Rattle.page_layout.specs.Plane.{Plane, by_pad}
 use Rattle.page_layout.specs.Page.{sound, finding, read_back, seeing, plane_in}

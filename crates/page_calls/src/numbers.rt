@@ -48,7 +48,10 @@ pub(crate) fn put_page(page: &Page, numbers: &mut [u64])
 pub(crate) fn put_answer(answer: Result<usize, Refusal>, numbers: &mut [u64])
     ensures { numbers.new ≡ answer_put answer numbers.old }
 {
-    let told = [u64::from(refusal_number(answer)), count_or_place(answer) as u64];
+    let told = [
+        u64::from(refusal_number(answer)),
+        count_or_place(answer) as u64,
+    ];
     put(&told, numbers);
 }
 

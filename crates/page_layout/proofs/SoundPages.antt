@@ -1,14 +1,13 @@
 -- Laws of pages: what a sound page is, and the slot of an event.
 -- Assumes nothing.
-use Prim.Native.Nat.{ℕ, ◌+◌, ◌%◌, ◌≤◌, ◌<◌}
-use native.Mathlib.Omega.{arith}
+use Prim.Native.Nat.{ℕ, ◌≤◌, ◌<◌}
 use mathlib.Core.Path.{◌≡◌}
 use mathlib.Core.Bool.{true}
 use lib.Dec.{leb}
 use borrow.Author.Tests.{leb-true, le-leb}
 use Rattle.page_layout.specs.declared.Page.{Page}
 use Rattle.page_layout.specs.Plane.{table}
-use Rattle.page_layout.specs.Page.{slot_of, length_of, sound}
+use Rattle.page_layout.specs.Page.{length_of, sound}
 use Rattle.page_layout.proofs.Tables.{table_at, and_true, up_to_at, table_up_to}
 
 pub record Sound (p : Page) (room : ℕ) : Type 0 where
@@ -30,11 +29,3 @@ sound_is p room h =
 pub is_sound_lem : (p : Page) (room : ℕ) → Sound p room → sound p room ≡ true
 unfolding sound
 is_sound_lem p room s = rw (le-leb 65536 room s.roomy, le-leb p.count 64 s.count) (table_up_to 1024 p.count (length_of p) s.short)
-
--- the first slot taken below 64 before the sum, so that it cannot wrap
-pub same_slot : (p : Page) (k : ℕ) → (p.first % 64 + k) % 64 ≡ slot_of p k
-same_slot p k = omega arith
-
--- behind the oldest
-pub next_slot : (p : Page) (k : ℕ) → ((p.first + 1) % 64 + k) % 64 ≡ slot_of p (1 + k)
-next_slot p k = omega arith

@@ -1,14 +1,12 @@
 -- How long the texts of a page are, and a mark put behind others. Assumes nothing.
-use Prim.Native.Nat.{ℕ, ◌+◌, ◌-◌, ◌*◌, ◌/◌, ◌%◌, ◌≤◌, ◌<◌}
-use native.Mathlib.Nat.{mul-le-mul_right, suc-mul}
+use Prim.Native.Nat.{ℕ, ◌+◌, ◌-◌, ◌*◌, ◌/◌, ◌%◌}
 use native.Mathlib.Omega.{arith}
-use mathlib.Core.Path.{◌≡◌, refl, ap, ◌∙◌}
+use mathlib.Core.Path.{◌≡◌, refl}
 use mathlib.Core.Bool.{Bool, true, false, cond}
 use mathlib.Core.List.{List, [], ◌∷◌}
 use lib.Dec.{leb}
 use lib.ListN.{length, set, length-append}
-use lib.Seq.{length-sets}
-use Rattle.hex_line.specs.Text.{text, field, texts_below, Placed}
+use Rattle.hex_line.specs.Text.{text, field, Placed}
 use Rattle.hex_line.proofs.TextLaws.{hex_length, field_length, texts_length}
 use Rattle.page_text.specs.Text.{largest, head_text, count_of, least_of, mark, marks_text, row_text, rows_text, picture_text, pictures_text}
 use Rattle.page_text.specs.Text.{eight_text, count_text, counts_text, last_label, last_text, text_of_page}
@@ -24,16 +22,6 @@ mark_length least n = go (leb least n)
     go : (b : Bool) → length (cond b (text "#") (text " ")) ≡ 1
     go true = refl
     go false = refl
-
--- a buffer stays as long as it is
-pub placed_size : {before after t : List ℕ} {at k : ℕ} → Placed before at t k after → length after ≡ length before
-placed_size {before} {after} {t} {at} {k} p = ap length p.holds ∙ length-sets before at t
-
--- where `count` texts of one length each have room, and n of them stand there, there is room for one more
-pub room_next : {m count : ℕ} (n : ℕ) (f : ℕ → List ℕ) → ((k : ℕ) → length (f k) ≡ m) → n < count
-    → {before now : List ℕ} {at k : ℕ} → at + length (texts_below count f) ≤ length before → Placed before at (texts_below n f) k now → k + length (f n) ≤ length now
-room_next {m} {count} n f l h r p =
-    omega (arith, r, p.ends, placed_size p, l n, texts_length n f l, texts_length count f l, mul-le-mul_right m h, suc-mul n m)
 
 -- one mark more
 pub mark_put : (least n : ℕ) (before : List ℕ) (at channel : ℕ) {x : ℕ} → x ∷ [] ≡ mark least n

@@ -1,7 +1,9 @@
 // What reading and writing dialect R share (document 02, #101): the number of words, the ids of regions and the sizes that they allow.
 #![tactic(auto)]
 
-ghost use Rattle.std.specs.Prelude.{◌≡◌};
+ghost use Rattle.std.specs.Prelude.{◌≡◌, eqb};
+ghost use Rattle.rcnp_layout.specs.Event.{id_of, form_of};
+ghost use Rattle.rcnp_layout.specs.Layout.{allowed_size};
 
 // An event has from 2 to 4,096 words.
 pub const SMALLEST_EVENT: usize = 2;
@@ -65,5 +67,23 @@ impl Form {
             Form::Scaler => size % 2 == 0,
             _ => true,
         }
+    }
+}
+
+// Whether a region before the check sum may have this id.
+pub fn has_form(id: u32) -> bool
+    ensures { result ≡ eqb id (id_of (form_of id)) }
+{
+    Form::of(id).is_some()
+}
+
+// Whether a region before the check sum may have this size, by its id. (An id that `has_form` does not take is judged as the input register's, as in the
+// definition.)
+pub fn allows_size(id: u32, size: u32) -> bool
+    ensures { result ≡ allowed_size (form_of id) size }
+{
+    match Form::of(id) {
+        Some(form) => form.allows_size(size),
+        None => Form::InputRegister.allows_size(size),
     }
 }

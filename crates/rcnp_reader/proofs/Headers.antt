@@ -10,7 +10,7 @@ use mathlib.Core.List.{List, ◌∷◌}
 use lib.Dec.{T, eqb, leb}
 use lib.ListN.{length, get_or, drop, drop_of_length-le}
 use lib.Seq.{drop-cons, slice}
-use borrow.Author.Tests.{leb-true, leb-false, eq-eqb, ne_eqb, eqb-true, eqb-false, lt-ltb, not-true, not-false}
+use borrow.Author.Tests.{leb-true, leb-false, eq-eqb, ne_eqb, lt-ltb, not-true, not-false}
 use Rattle.event.specs.Parser.{Result, Parser, refuse, require, filled, ◌>>◌}
 use Rattle.event.proofs.Codes.{true_T, T_true}
 use Rattle.event.proofs.Impossible.{impossible}

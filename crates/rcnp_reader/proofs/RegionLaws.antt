@@ -19,7 +19,7 @@ use Rattle.event.proofs.Impossible.{impossible}
 use Rattle.event.proofs.Leads.{refused_scan}
 use Rattle.event.proofs.Loops.{at_end}
 use Rattle.event.proofs.Turns.{at_word}
-use Rattle.rcnp_layout.specs.Event.{Form, input_register, scaler, vdc, opaque, Content, id_of, form_of}
+use Rattle.rcnp_layout.specs.Event.{Form, input_register, scaler, vdc, opaque, Content, id_of}
 use Rattle.rcnp_layout.specs.Layout.{content_words, word_row, vdc_row, content_rows, region_row, region_rows, word_checks, ValidContent}
 use Rattle.rcnp_layout.specs.Reading.{scaler_value, vdc_of, content, region}
 use Rattle.rcnp_layout.proofs.RowCount.{in_content}
@@ -155,10 +155,6 @@ not_scaler is.AdcLas h e = impossible cc
 not_scaler is.TdcLas h e = impossible cc
 not_scaler is.Fera h e = impossible cc
 not_scaler is.Feret h e = impossible cc
-
--- a VDC region, whose words are judged
-pub opens_chamber : {ws : List ℕ} {i k size : ℕ} {b b₁ : List ℕ} → RowStored ws i k vdc size b b₁ → Opens ws i k b b₁ (Ok (Chamber (i + 1 + size)))
-opens_chamber {i = i} {size = size} h = let z : i + 1 + size - (i + 1) ≡ size = omega arith in record { opened = (rw z h.headed, omega arith, rw z h.own) }
 
 -- scalers
 module _ {ws : List ℕ} {i k size : ℕ} {b b₁ : List ℕ} (h : RowStored ws i k scaler size b b₁) where

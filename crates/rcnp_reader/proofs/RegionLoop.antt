@@ -17,7 +17,6 @@ use Rattle.event.proofs.Elements.{each_append}
 use Rattle.event.proofs.Ends.{placed}
 use Rattle.event.proofs.ItemsTaken.{TakenTo, none_taken, all_taken, item_refuses, one_taken}
 use Rattle.event.proofs.Leads.{store_append}
-use Rattle.event.proofs.RowStores.{length_rows}
 use Rattle.rcnp_layout.specs.Event.{Region}
 use Rattle.rcnp_layout.specs.Layout.{region_rows}
 use Rattle.rcnp_layout.specs.Reading.{region, at_sum}
@@ -36,9 +35,6 @@ pub regions_begin : {ws b : List ℕ} → RegionsTo ws b 0 0 b
 regions_begin {ws} = record { list = []; taken = none_taken (λ u. region) alone at_sum tt 0 ws; inside = omega arith; few = omega arith; counted = refl; stored = refl }
 
 module _ {ws b₀ : List ℕ} {i k : ℕ} {b : List ℕ} (h : RegionsTo ws b₀ i k b) where
-  pub regions_same : length b ≡ length b₀
-  regions_same = ap length h.stored ∙ length_rows (each region_rows h.list) b₀ 0
-
   pub regions_done : true ≡ at_sum (drop i ws) → PartOf (each region_rows) (several region at_sum 0 ws) ws 0 b₀ b (Ok (part i k))
   regions_done e = record {
     part = record {

@@ -6,20 +6,19 @@ use native.Mathlib.Omega.{arith}
 use mathlib.Core.Path.{◌≡◌, refl, ◌∙◌}
 use mathlib.Core.Bool.{Bool, true, false, cond, ◌&&◌}
 use mathlib.Core.List.{List, [], ◌∷◌, ◌++◌, map, map-append}
-use lib.Dec.{eqb, ltb, leb}
+use lib.Dec.{eqb, ltb}
 use lib.ListN.{length, get_or}
 use lib.Seq.{slice, slice_empty}
 use borrow.Author.Tests.{eq-eqb, ne_eqb, lt-ltb, ltb-true, ltb-false, le-leb, lt-leb}
 use Rattle.event.specs.Parser.{Result, ok, refuse, ended}
-use Rattle.event.specs.Rows.{row}
 use Rattle.event.proofs.ItemsTaken.{TakenTo, none_taken, all_taken, item_refuses, one_taken}
 use Rattle.event.proofs.RowStores.{slice_more}
 use Rattle.event.proofs.Turns.{at_word}
 use Rattle.rcnp_layout.specs.Event.{VdcWord, head, datum, vdc}
-use Rattle.rcnp_layout.specs.Layout.{vdc_word, vdc_fits, vdc_row, begins}
+use Rattle.rcnp_layout.specs.Layout.{vdc_word, vdc_fits, begins}
 use Rattle.rcnp_layout.specs.Reading.{vdc_of, vdc_value, content}
 use Rattle.rcnp_layout.proofs.Words.{codes_vdc}
-use Rattle.rcnp_reader.specs.Regions.{vdc_good, vdc_word_row}
+use Rattle.rcnp_reader.specs.Regions.{vdc_good}
 
 pub vdc_judged : (begun : Bool) (i w : ℕ) (r : List ℕ) → vdc_value begun i (w ∷ r) ≡ cond (vdc_good begun w) (ok (vdc_of w) (suc i) r) (refuse 10 i)
 unfolding vdc_good

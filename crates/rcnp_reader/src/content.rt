@@ -60,7 +60,13 @@ impl WordRow for Chamber {
 }
 
 // Stores a row for each word, those that fit.
-pub(crate) fn store_words<W: WordRow>(words: &[u16], first: usize, end: usize, rows: &mut [u32], at: usize)
+pub(crate) fn store_words<W: WordRow>(
+    words: &[u16],
+    first: usize,
+    end: usize,
+    rows: &mut [u32],
+    at: usize,
+)
     requires { (first ≤ end) × (end ≤ length words.now) }
     ensures { rows.new ≡ store_rows rows.old at (map W.row_of (slice first end words.now)) }
 {

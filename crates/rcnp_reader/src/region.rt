@@ -38,7 +38,14 @@ pub(crate) fn open_region(
 }
 
 // The region at `at` of this form and size, which it may have: its own row, and its content.
-fn read_region(words: &[u16], at: usize, form: Form, size: u32, rows: &mut [u32], count: usize) -> Result<Opened, Refusal>
+fn read_region(
+    words: &[u16],
+    at: usize,
+    form: Form,
+    size: u32,
+    rows: &mut [u32],
+    count: usize,
+) -> Result<Opened, Refusal>
     requires { Headed words.now at (layout_form form) size × (count ≤ at) }
     ensures { Opens words.now at count rows.old rows.new result }
 {

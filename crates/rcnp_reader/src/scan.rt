@@ -16,7 +16,7 @@ use event::rows::store_row;
 use event::{Part, Row};
 
 // Reads regions up to the check sum's, or to the first word that breaks a rule. The inner loop judges the words of a VDC region; their rows are stored
-// together, behind it.
+// together, behind it. (Where a region ends is known only by its header.)
 fn regions(words: &[u16], rows: &mut [u32]) -> Result<Part, Refusal>
     ensures { PartOf (each region_rows) (several region at_sum 0 words.now) words.now 0 rows.old rows.new result }
 {

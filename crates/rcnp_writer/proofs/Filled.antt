@@ -1,6 +1,6 @@
 -- The words of rows, stored row by row, region by region. Over plain values.
 -- Assumes nothing.
-use Rattle.std.proofs.Common.{◌≡◌, ℕ, zero, suc, ◌+◌, ◌-◌, ◌*◌, ◌/◌, ◌%◌, ◌<◌, ◌≤◌, min, Bool, true, false, cond, T, ltb, List, [], ◌∷◌, ◌++◌, length, get_or, take, drop, sym, refl, ap, ◌∙◌, append-nil, arith, ltb→lt, length-append, take_all, drop-drop, take-add, ne_eqb}
+use Rattle.std.proofs.Common.{◌≡◌, ℕ, zero, suc, ◌+◌, ◌-◌, ◌*◌, ◌<◌, ◌≤◌, min, Bool, true, false, cond, T, ltb, List, [], ◌∷◌, ◌++◌, length, get_or, take, drop, sym, refl, ap, ◌∙◌, append-nil, arith, ltb→lt, length-append, take_all, drop-drop, take-add, ne_eqb}
 use borrow.Rule.Slice.PartMut.{put_mid}
 use Rattle.event.specs.declared.Row.{Row}
 use Rattle.event.specs.Parser.{each}
@@ -14,22 +14,8 @@ use Rattle.event.proofs.RowJudged.{rows_from_lem}
 use Rattle.event.proofs.WordStores.{length_words, past_the_end, part_written}
 use Rattle.rcnp_layout.specs.Layout.{scaler_words, vdc_word}
 use Rattle.rcnp_layout.specs.Writing.{vdc_of}
-use Rattle.rcnp_writer.specs.Parts.{of_chamber, RunAt, words_in, Filled}
-use Rattle.rcnp_writer.specs.RowWords.{field_word, row_words}
-
--- one row's words, by its kind
-module _ (r : Row) (b : List ℕ) (at : ℕ) where
-  abbrev RowStored : List ℕ → ℕ → Type 0
-  RowStored after next = (after ≡ store_words 16 b at (row_words r)) × (next ≡ at + length (row_words r))
-
-  pub word_stored : {b₁ : List ℕ} → r.kind ≡ 33 → b₁ ≡ store_word 16 b at r.datum → RowStored b₁ (at + 1)
-  word_stored e s = rw e (s, refl)
-
-  pub scaler_stored : {b₁ b₂ : List ℕ} → r.kind ≡ 34 → b₁ ≡ store_word 16 b at (r.datum % 65536) → b₂ ≡ store_word 16 b₁ (at + 1) (r.datum / 65536) → RowStored b₂ (at + 2)
-  scaler_stored e s t = rw e (t ∙ rw s, refl)
-
-  pub fields_stored : {b₁ : List ℕ} → (r.kind ≡ 33 → ⊥) → (r.kind ≡ 34 → ⊥) → {w : ℕ} → w ≡ field_word r → b₁ ≡ store_word 16 b at w → RowStored b₁ (at + 1)
-  fields_stored m n q s = rw (ne_eqb 33 r.kind (λ e. m (sym e)), ne_eqb 34 r.kind (λ e. n (sym e))) (s ∙ rw q, refl)
+use Rattle.rcnp_writer.specs.Parts.{of_chamber, such, RunAt, words_in, Filled}
+use Rattle.rcnp_writer.specs.RowWords.{field_word, row_words, single_word}
 
 pub row_few : (r : Row) → length (row_words r) ≤ 2 * 1
 row_few r = go (of_kind 33 r) (of_kind 34 r)
@@ -83,13 +69,17 @@ filled_then {rs} {i} {j} {k} {at} {b = b} f g =
     }
 
 -- rows of one word each
-pub word_alone_lem : (r : Row) → T (of_kind 33 r) → row_words r ≡ r.datum ∷ []
+word_alone_lem : (r : Row) → T (of_kind 33 r) → row_words r ≡ r.datum ∷ []
 word_alone_lem r t = rw (T_true (of_kind 33 r) t)
 
-pub chamber_alone : (r : Row) → T (of_chamber r) → row_words r ≡ vdc_word (vdc_of r) ∷ []
+chamber_alone : (r : Row) → T (of_chamber r) → row_words r ≡ vdc_word (vdc_of r) ∷ []
 chamber_alone r t =
     let h = ltb→lt 34 r.kind t in
     rw (ne_eqb 33 r.kind (λ e. omega arith), ne_eqb 34 r.kind (λ e. omega arith), T_true (ltb 34 r.kind) t)
+
+pub such_alone : (chamber : Bool) (r : Row) → T (such chamber r) → row_words r ≡ single_word chamber r ∷ []
+such_alone true = chamber_alone
+such_alone false = word_alone_lem
 
 -- one of them more
 pub filled_one : (k : ℕ) {rs : List Row} {i at w : ℕ} {b₀ b b' : List ℕ} {r : Row} → Filled rs i (i + k) at (at + k) b₀ b → i + k < length rs → r ≡ get_or rs (i + k) no_row

@@ -9,10 +9,9 @@ use Rattle.event.proofs.Codes.{T_true}
 use Rattle.event.proofs.Elements.{both}
 use Rattle.event.proofs.RowCodes.{fields_same}
 use Rattle.event.proofs.RowFaults.{Judged, judged, Tested, tested, each_of, three, datum_tested}
-use Rattle.rcnp_layout.specs.Event.{Form, id_of, sum_id, form_of}
+use Rattle.rcnp_layout.specs.Event.{id_of, sum_id, form_of}
 use Rattle.rcnp_layout.specs.Layout.{region_row, allowed_size}
 use Rattle.rcnp_layout.specs.Writing.{header_of, header_row, header_checks}
-use Rattle.rcnp_layout.proofs.Sizes.{form_back}
 use Rattle.rcnp_writer.specs.Faults.{header_fault, sum_fault, datum_fault, vdc_fault, last_kind, VdcRight}
 
 -- a region's own row
@@ -25,24 +24,18 @@ header_judged r = judged 32 header_of header_row header_checks r (refl, (refl, t
     (λ p. (ltb→lt r.channel (2 ^ 12) p.1.0, p.0.3, (p.0.1, p.1.1.0)))
     (λ e h. ((e, h.2.0, refl, h.1), (lt→ltb r.channel (2 ^ 12) h.0, (h.2.1, tt))))
 
-pub header_tested : (r : Row) {allowed : Bool} → allowed ≡ (eqb r.unit (id_of (form_of r.unit)) && allowed_size (form_of r.unit) r.channel)
-    → Tested (header_fault r) r.kind 32 ((ltb r.channel 4096 && eqb r.datum 0) && allowed)
-header_tested r {allowed} p =
+pub header_tested : (r : Row) {id size : Bool} → id ≡ eqb r.unit (id_of (form_of r.unit)) → size ≡ allowed_size (form_of r.unit) r.channel
+    → Tested (header_fault r) r.kind 32 ((ltb r.channel 4096 && eqb r.datum 0) && (id && size))
+header_tested r {id} {size} p q =
+    let allowed = id && size in
     let a = ltb r.channel 4096 in
     let b = eqb r.datum 0 in
     tested (header_judged r) ((a && b) && allowed)
     (λ t.
     let x = each_of a b allowed t in
-    let y = both (eqb r.unit (id_of (form_of r.unit))) (allowed_size (form_of r.unit) r.channel) (rw p at x.2) in
+    let y = both (eqb r.unit (id_of (form_of r.unit))) (allowed_size (form_of r.unit) r.channel) (rw (p, q) at x.2) in
     (ltb→lt r.channel 4096 x.0, eqb→eq r.datum 0 x.1, (eqb→eq r.unit (id_of (form_of r.unit)) y.0, y.1)))
-    (λ h. three a b allowed (lt→ltb r.channel 4096 h.0) (rw (eq-eqb r.datum 0 h.1) tt) (rw (p, eq-eqb r.unit (id_of (form_of r.unit)) h.2.0) h.2.1))
-
--- the size of a region, by the form of its id
-pub sized : (id size : ℕ) (f : Form) → id ≡ id_of f → {b : Bool} → b ≡ allowed_size f size → b ≡ (eqb id (id_of (form_of id)) && allowed_size (form_of id) size)
-sized id size f e q = rw (q, e, form_back f, eq-eqb (id_of f) (id_of f) refl)
-
-pub unsized : (id size : ℕ) → ((f : Form) → id ≡ id_of f → ⊥) → false ≡ (eqb id (id_of (form_of id)) && allowed_size (form_of id) size)
-unsized id size none = rw (ne_eqb id (id_of (form_of id)) (none (form_of id)))
+    (λ h. three a b allowed (lt→ltb r.channel 4096 h.0) (rw (eq-eqb r.datum 0 h.1) tt) (rw (p, q, eq-eqb r.unit (id_of (form_of r.unit)) h.2.0) h.2.1))
 
 -- the check sum region's own row
 pub sum_tested : (r : Row) → Tested (sum_fault r) r.kind 32 ((eqb r.unit 15 && eqb r.channel 1) && eqb r.datum 0)

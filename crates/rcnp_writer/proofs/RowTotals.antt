@@ -41,20 +41,11 @@ wrapped a = omega arith
 added : (a b c : ℕ) → a % 65536 ≡ b % 65536 → (a + c) % 65536 ≡ (b + c) % 65536
 added a b c e = omega arith
 
--- a word more, in 64 bits or in 32
-pub wrapped_64 : (sum w : ℕ) {next : ℕ} → next ≡ (sum + w) % 2 ^ 64 → next % 65536 ≡ (sum + w) % 65536
-wrapped_64 sum w e = rw e (wrapped (sum + w))
-
+-- a word more, in 32 bits
 pub wrapped_32 : (sum w : ℕ) {part next : ℕ} → part ≡ w % 2 ^ 32 → next ≡ (sum + part) % 2 ^ 32 → next % 65536 ≡ (sum + w) % 65536
 wrapped_32 sum w e p = rw (p, e) (omega arith)
 
--- no row, and one row of one word more
-pub summed_none : (rs : List Row) (i : ℕ) → Summed rs i (i + 0) 0
-summed_none rs i =
-    let e : i + 0 ≡ i = omega arith in
-    let z : total_to rs i + 0 ≡ total_to rs i = omega arith in
-    record { sums = rw (e, z) }
-
+-- one row of one word more
 pub summed_one : {rs : List Row} {i sum next w : ℕ} (k : ℕ) {r : Row} → Summed rs i (i + k) sum → i + k < length rs → r ≡ get_or rs (i + k) no_row → row_words r ≡ w ∷ []
     → next % 65536 ≡ (sum + w) % 65536 → Summed rs i (i + (k + 1)) next
 summed_one {rs} {i} {sum} {next} {w} k {r} s h e q p =

@@ -1,13 +1,13 @@
 -- In the rows of an event, after a region's own row stand as many rows of one word each as its size says. Over plain values.
 -- Assumes nothing.
-use Rattle.std.proofs.Common.{◌≡◌, ℕ, zero, suc, ◌+◌, ◌<◌, Bool, T, List, [], ◌∷◌, ◌++◌, map, length, get_or, sym, refl, subst, append_assoc, arith, length-append, eq-eqb, ne_eqb}
+use Rattle.std.proofs.Common.{◌≡◌, ℕ, zero, suc, ◌+◌, ◌<◌, Bool, T, List, [], ◌∷◌, ◌++◌, map, length, get_or, sym, refl, subst, append_assoc, arith, length-append}
 use lib.ListN.{length-map}
 use Rattle.event.specs.declared.Row.{Row}
 use Rattle.event.specs.Parser.{All, each, prints}
-use Rattle.event.specs.Writing.{of_kind, no_row}
+use Rattle.event.specs.Writing.{no_row}
 use Rattle.rcnp_layout.specs.Event.{VdcWord, head, datum, Opaque, adc, tdc, pcos, adc_las, tdc_las, fera, feret, Form, input_register, scaler, vdc, opaque, Content, Region, Event, id_of}
 use Rattle.rcnp_layout.specs.Layout.{size_of, vdc_word, region_row, word_row, scaler_row, next_index, vdc_row, content_rows, region_rows, sum_rows, rows}
-use Rattle.rcnp_writer.specs.Parts.{run_words, of_chamber, of_run, RunAt, Runs}
+use Rattle.rcnp_writer.specs.Parts.{run_words, such, of_run, RunAt, Runs}
 
 -- one row more before them
 shifted : (such : Row → Bool) (x : Row) (l : List Row) (i n : ℕ) → RunAt such l i n → RunAt such (x ∷ l) (suc i) n
@@ -114,14 +114,6 @@ regions_runs (g ∷ gs) w =
 
 pub rows_runs : (e : Event) → Runs (rows e)
 rows_runs e = regions_runs e.regions e.sum
-
--- which rows follow a region's own
-module _ (own : Row) {rs : List Row} {first n : ℕ} (run : RunAt (of_run own) rs first n) where
-  pub of_chamber_lem : own.unit ≡ 7 → RunAt of_chamber rs first n
-  of_chamber_lem e = record { inside = run.inside; each = λ k h. rw (eq-eqb own.unit 7 e) at (run.each k h) }
-
-  pub of_words : (own.unit ≡ 7 → ⊥) → RunAt (of_kind 33) rs first n
-  of_words z = record { inside = run.inside; each = λ k h. rw (ne_eqb own.unit 7 z) at (run.each k h) }
 
 pub run_at : {rs : List Row} {i n : ℕ} (r : Row) → Runs rs → i < length rs → r ≡ get_or rs i no_row → n ≡ run_words r → RunAt (of_run r) rs (i + 1) n
 run_at {i = i} r runs h e m = rw (m, e) (runs.at i h)

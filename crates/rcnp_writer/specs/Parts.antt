@@ -53,9 +53,13 @@ run_words r = cond (of_kind 32 r) (cond (r.unit == id_of scaler) 0 r.channel) 0
 abbrev pub of_chamber : Row → Bool
 of_chamber r = nat_lt 34 r.kind
 
+-- rows of one word each: of the chamber, or as they are
+abbrev pub such : (chamber : Bool) → Row → Bool
+such chamber r = cond chamber (of_chamber r) (of_kind 33 r)
+
 -- which they are, after a region's own row
 abbrev pub of_run : (own : Row) → Row → Bool
-of_run own r = cond (own.unit == id_of vdc) (of_chamber r) (of_kind 33 r)
+of_run own = such (own.unit == id_of vdc)
 
 -- n rows from `first` on are there, and such
 pub record RunAt (such : Row → Bool) (rs : List Row) (first n : ℕ) : Type 0 where

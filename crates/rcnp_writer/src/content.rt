@@ -16,6 +16,7 @@ use event::refusal::Refusal;
 use event::rows::row_at;
 
 // n words as they are, from row `first` on.
+#[tactic(auto, using(event::proofs::RowsIn::rows_count))]
 pub(crate) fn judge_words(rows: &[u32], first: usize, n: u32) -> Result<Part, Refusal>
     requires { (1 ≤ first) × (first ≤ length (rows_in rows.now)) }
     ensures { Counts (each word_alone) (times (λ u. word) alone n tt first (drop first (rows_in rows.now))) (rows_in rows.now) 1 result }
@@ -37,6 +38,7 @@ pub(crate) fn judge_words(rows: &[u32], first: usize, n: u32) -> Result<Part, Re
 }
 
 // n scalers, from row `first` on.
+#[tactic(auto, using(event::proofs::RowsIn::rows_count))]
 pub(crate) fn judge_scalers(rows: &[u32], first: usize, n: u32) -> Result<Part, Refusal>
     requires { (1 ≤ first) × (first ≤ length (rows_in rows.now)) }
     ensures { Counts (each scaler_words) (times scaler_at next_index n 0 first (drop first (rows_in rows.now))) (rows_in rows.now) 1 result }
@@ -53,6 +55,7 @@ pub(crate) fn judge_scalers(rows: &[u32], first: usize, n: u32) -> Result<Part, 
 }
 
 // Whether the n rows of a VDC region from row `first` on are there and break no rule. (No row ends the loop, so that several may be judged at once.)
+#[tactic(auto, using(event::proofs::RowsIn::rows_count))]
 fn chamber_right(rows: &[u32], first: usize, n: usize) -> bool
     requires { first ≤ length (rows_in rows.now) }
     ensures { result ≡ true → ChamberRight (rows_in rows.now) first n }
@@ -70,6 +73,7 @@ fn chamber_right(rows: &[u32], first: usize, n: usize) -> bool
 }
 
 // n words of the vertical drift chamber, from row `first` on. The first that breaks a rule is looked for only where one does.
+#[tactic(auto, using(event::proofs::RowsIn::rows_count))]
 pub(crate) fn judge_chamber(rows: &[u32], first: usize, n: u32) -> Result<Part, Refusal>
     requires { (1 ≤ first) × (first ≤ length (rows_in rows.now)) }
     ensures { Counts (each vdc_words) (times vdc_value begins n false first (drop first (rows_in rows.now))) (rows_in rows.now) 1 result }
@@ -85,6 +89,7 @@ pub(crate) fn judge_chamber(rows: &[u32], first: usize, n: u32) -> Result<Part, 
 }
 
 // Row by row.
+#[tactic(auto, using(event::proofs::RowsIn::rows_count))]
 fn check_chamber(rows: &[u32], first: usize, n: usize) -> Result<Part, Refusal>
     requires { (1 ≤ first) × (first ≤ length (rows_in rows.now)) }
     ensures { Counts (each vdc_words) (times vdc_value begins n false first (drop first (rows_in rows.now))) (rows_in rows.now) 1 result }

@@ -1,16 +1,14 @@
 // The rules of a row where it stands: it is refused by 21 or 22.
-ghost use Rattle.std.specs.Prelude.{◌≡◌, ◌&&◌, eqb};
+ghost use Rattle.std.specs.Prelude.{◌≡◌};
 ghost use Rattle.event.specs.Kind.{number as kind_number};
 ghost use Rattle.event.specs.Refusal.{verdict};
-ghost use Rattle.rcnp_layout.specs.Event.{id_of, form_of};
-ghost use Rattle.rcnp_layout.specs.Layout.{allowed_size};
 ghost use Rattle.rcnp_writer.specs.Faults.{header_fault, sum_fault, datum_fault, vdc_fault, last_kind, VdcRight};
 
 use event::Row;
 use event::kind::Kind;
 use event::refusal::{Fault, Refusal, refuse};
 use event::words::pick;
-use rcnp_format::Form;
+use rcnp_format::{allows_size, has_form};
 
 // A region's own row: its id, a size of 12 bits that the id allows, 0.
 pub(crate) fn check_header(row: Row, place: usize) -> Result<(), Refusal>
@@ -19,20 +17,11 @@ pub(crate) fn check_header(row: Row, place: usize) -> Result<(), Refusal>
     if row.kind != Kind::Region as u32 {
         return refuse(Fault::Kind, place);
     }
-    if (row.channel < 4096) & (row.datum == 0) & has_size(row.unit, row.channel) {
+    let allowed = has_form(row.unit) & allows_size(row.unit, row.channel);
+    if (row.channel < 4096) & (row.datum == 0) & allowed {
         return Ok(());
     }
     refuse(Fault::Field, place)
-}
-
-// Whether a region before the check sum may have this id and this size.
-fn has_size(id: u32, size: u32) -> bool
-    ensures { result ≡ eqb id (id_of (form_of id)) && allowed_size (form_of id) size }
-{
-    match Form::of(id) {
-        Some(form) => form.allows_size(size),
-        None => false,
-    }
 }
 
 // The own row of the check sum region.

@@ -5,10 +5,10 @@ ghost use Rattle.event.specs.Words.{store_word};
 ghost use Rattle.event.specs.Writing.{rows_in, of_kind};
 ghost use Rattle.event.specs.Scanning.{store_words};
 ghost use Rattle.rcnp_writer.specs.RowWords.{row_words};
-ghost use Rattle.rcnp_writer.specs.Parts.{of_chamber, of_run, RunAt, Runs, Filled};
+ghost use Rattle.rcnp_writer.specs.Parts.{such, of_run, RunAt, Runs, Filled};
 
 use crate::run::{row_there, run_words};
-use crate::word::{field_word, vdc_word};
+use crate::word::{field_word, single_word};
 use event::kind::Kind;
 use event::rows::{fitting, row_at};
 use event::words::{part_start, store_word};
@@ -33,7 +33,7 @@ fn store_row(words: &mut [u16], at: usize, row: Row) -> usize
     at + 1
 }
 
-// A word where there is room for it.
+// A word that fits: `event::words::store_word` without its test of the room, which the loop would make for each word.
 fn put_word(words: &mut [u16], at: usize, word: usize)
     requires { at < length words.old }
     ensures { words.new ≡ store_word 16 words.old at word }
@@ -41,25 +41,25 @@ fn put_word(words: &mut [u16], at: usize, word: usize)
     words[at] = (word % 65536) as u16;
 }
 
-// n words as they are, from row `first` on, from word `at` on: those that fit, so that the loop has no test.
-fn store_words(rows: &[u32], first: usize, n: usize, words: &mut [u16], at: usize)
-    requires { RunAt (of_kind 33) (rows_in rows.now) first n × (at ≤ 2 * first) }
+// The words of n rows of one word each, of the chamber or not, from row `first` on, from word `at` on: those that fit, so that the loop has no test.
+#[tactic(auto, using(event::proofs::RowsIn::rows_count))]
+fn store_words<const CHAMBER: bool>(
+    rows: &[u32],
+    first: usize,
+    n: usize,
+    words: &mut [u16],
+    at: usize,
+)
+    requires { RunAt (such CHAMBER) (rows_in rows.now) first n × (at ≤ 2 * first) }
     ensures { Filled (rows_in rows.now) first (first + n) at (at + n) words.old words.new }
 {
     let most = fitting(n, at, words.len());
     for k in 0..most {
-        put_word(words, at + k, row_there(rows, first + k).datum as usize);
-    }
-}
-
-// n words of the chamber, likewise.
-fn store_chamber(rows: &[u32], first: usize, n: usize, words: &mut [u16], at: usize)
-    requires { RunAt of_chamber (rows_in rows.now) first n × (at ≤ 2 * first) }
-    ensures { Filled (rows_in rows.now) first (first + n) at (at + n) words.old words.new }
-{
-    let most = fitting(n, at, words.len());
-    for k in 0..most {
-        put_word(words, at + k, vdc_word(row_there(rows, first + k)));
+        put_word(
+            words,
+            at + k,
+            single_word::<CHAMBER>(row_there(rows, first + k)),
+        );
     }
 }
 
@@ -88,13 +88,14 @@ fn store_run(rows: &[u32], own: Row, first: usize, n: usize, words: &mut [u16], 
     ensures { Filled (rows_in rows.now) first (first + n) at (at + n) words.old words.new }
 {
     if own.unit == Form::Vdc as u32 {
-        store_chamber(rows, first, n, words, at);
+        store_words::<true>(rows, first, n, words, at);
     } else {
-        store_words(rows, first, n, words, at);
+        store_words::<false>(rows, first, n, words, at);
     }
 }
 
 // The region whose own row is row `first`, at the front of the words. Rows of one word each are stored in loops of their own.
+#[tactic(auto, using(event::proofs::RowsIn::rows_count))]
 fn write_region(rows: &[u32], first: usize, words: &mut [u16]) -> Part
     requires { (first < length (rows_in rows.now)) × Runs (rows_in rows.now) }
     ensures { (first < result.next) × Filled (rows_in rows.now) first result.next 0 result.count words.old words.new }
@@ -106,7 +107,8 @@ fn write_region(rows: &[u32], first: usize, words: &mut [u16]) -> Part
     store_rows(rows, first + 1 + n, words, at + n)
 }
 
-// (How many rows a region has is known only once it is written.) All regions, each in the part of the words that starts at its place.
+// All regions, each in the part of the words that starts at its place. (How many rows a region has is known only once it is written.)
+#[tactic(auto, using(event::proofs::RowsIn::rows_count))]
 pub(crate) fn write_regions(rows: &[u32], words: &mut [u16])
     requires { Runs (rows_in rows.now) }
     ensures { words.new ≡ store_words 16 words.old 0 (each row_words (rows_in rows.now)) }

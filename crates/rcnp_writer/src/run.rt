@@ -20,7 +20,8 @@ pub(crate) fn run_words(row: Row) -> usize
     row.channel as usize
 }
 
-// A row that is there.
+// A row that is there: `event::rows::row_at` without its test, which the loops over rows of one word each would make for each row.
+#[tactic(auto, using(event::proofs::RowsIn::rows_count))]
 pub(crate) fn row_there(rows: &[u32], at: usize) -> Row
     requires { at < length (rows_in rows.now) }
     ensures { result ≡ row_at rows.now at }

@@ -4,10 +4,10 @@ ghost use Rattle.event.specs.Parser.{each};
 ghost use Rattle.event.specs.Writing.{rows_in, of_kind};
 ghost use Rattle.rcnp_layout.specs.Layout.{total};
 ghost use Rattle.rcnp_writer.specs.RowWords.{row_words};
-ghost use Rattle.rcnp_writer.specs.Parts.{of_chamber, of_run, RunAt, Runs, Summed};
+ghost use Rattle.rcnp_writer.specs.Parts.{such, of_run, RunAt, Runs, Summed};
 
 use crate::run::{row_there, run_words};
-use crate::word::{field_word, vdc_word};
+use crate::word::{field_word, single_word};
 use event::Row;
 use event::kind::Kind;
 use event::rows::row_at;
@@ -26,43 +26,33 @@ fn row_total(row: Row) -> usize
     field_word(row)
 }
 
-// The sum of n words as they are, from row `first` on, modulo 2^64.
-fn sum_words(rows: &[u32], first: usize, n: usize) -> usize
-    requires { RunAt (of_kind 33) (rows_in rows.now) first n }
-    ensures { Summed (rows_in rows.now) first (first + n) result }
-{
-    let mut sum: usize = 0;
-    for k in 0..n {
-        sum = sum.wrapping_add(row_there(rows, first + k).datum as usize);
-    }
-    sum
-}
-
-// That of n words of the chamber, modulo 2^32: so more of them are summed at once.
-fn sum_chamber(rows: &[u32], first: usize, n: usize) -> usize
-    requires { RunAt of_chamber (rows_in rows.now) first n }
+// The sum of the words of n rows of one word each, of the chamber or not, from row `first` on, modulo 2^32: so more of them are summed at once than in 64 bits.
+#[tactic(auto, using(event::proofs::RowsIn::rows_count))]
+fn sum_words<const CHAMBER: bool>(rows: &[u32], first: usize, n: usize) -> usize
+    requires { RunAt (such CHAMBER) (rows_in rows.now) first n }
     ensures { Summed (rows_in rows.now) first (first + n) result }
 {
     let mut sum: u32 = 0;
     for k in 0..n {
-        let word = vdc_word(row_there(rows, first + k));
+        let word = single_word::<CHAMBER>(row_there(rows, first + k));
         sum = sum.wrapping_add((word % 0x1_0000_0000) as u32);
     }
     sum as usize
 }
 
-// That of the rows of one word each that follow a region's own row, from row `first` on.
+// The sum of the rows of one word each that follow a region's own row, from row `first` on.
 fn sum_run(rows: &[u32], own: Row, first: usize, n: usize) -> usize
     requires { RunAt (of_run own) (rows_in rows.now) first n }
     ensures { Summed (rows_in rows.now) first (first + n) result }
 {
     if own.unit == Form::Vdc as u32 {
-        return sum_chamber(rows, first, n);
+        return sum_words::<true>(rows, first, n);
     }
-    sum_words(rows, first, n)
+    sum_words::<false>(rows, first, n)
 }
 
-// The sum of the words of all rows, modulo 65,536. It is taken modulo 2^64 on the way.
+// The sum of the words of all rows, modulo 65,536. It is taken modulo 2^64 on the way. (How many rows a turn takes is known only by the first of them.)
+#[tactic(auto, using(event::proofs::RowsIn::rows_count))]
 pub(crate) fn row_sum(rows: &[u32]) -> usize
     requires { Runs (rows_in rows.now) }
     ensures { result ≡ total (each row_words (rows_in rows.now)) % 65536 }

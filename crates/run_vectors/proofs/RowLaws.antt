@@ -8,86 +8,75 @@ use native.Mathlib.Numerals.{sub-one}
 use native.Mathlib.Omega.{arith}
 use lib.Dec.{ltb, leb}
 use lib.ListN.{length, take, replicate}
+use Rattle.std.specs.Prelude.{Option, Some, None}
 use Rattle.event.specs.declared.Row.{Row}
 use Rattle.event.specs.Rows.{store_row}
 use Rattle.event.specs.Scanning.{store_rows}
 use Rattle.run_vectors.specs.declared.lines.Numbers.{Numbers}
-use Rattle.run_vectors.specs.declared.lines.Line.TheVariants as line
-use Rattle.run_vectors.specs.declared.lines.Line.{Line}
 use Rattle.run_vectors.specs.declared.vectors.Vector.{Vector}
-use Rattle.run_vectors.specs.declared.vectors.Parsed.TheVariants as parsed
-use Rattle.run_vectors.specs.declared.vectors.Expanded.TheVariants as expanded
-use Rattle.run_vectors.specs.declared.vectors.Expanded.{Expanded}
-use Rattle.run_vectors.specs.Lines.{line_bytes, line_at, LineWithin}
-use borrow.Author.Tests.{leb-true}
-use Rattle.run_vectors.specs.Vectors.{most_elements, call_number, head_holds, expansion, row_of, suits, call_of, call_dialect, vector_of, vector_at, RowsWithin, VectorWithin}
+use Rattle.run_vectors.specs.declared.vectors.Rows.{Rows}
+use Rattle.run_vectors.specs.Lines.{line_bytes, line_at}
+use borrow.Author.Tests.{leb-true, lt-ltb, le-ltb}
+use Rattle.run_vectors.specs.Vectors.{most_elements, call_number, head_holds, expansion, row_of, suits, call_of, call_dialect, vector_of, vector_at, VectorWithin}
 
--- a row that is stored so many times: none, and one more
+-- a row that is stored so many times: once more
 module _ (buffer : List ℕ) (at : ℕ) (row : Row) where
-  pub repeat_none : (n : ℕ) → n ≤ 0 → store_rows buffer at (replicate n row) ≡ buffer
-  repeat_none zero h = refl
-  repeat_none (suc n) h = absurd (not-suc-le-zero h)
-
   pub repeat_next : (n : ℕ) → 0 < n → store_rows buffer at (replicate n row) ≡ store_rows (store_row buffer at row) (at + 1) (replicate (n - 1) row)
   repeat_next zero h = absurd (not-suc-le-zero h)
   repeat_next (suc n) h = rw sub-one
 
 -- runs: none left; the next line malformed; too many rows; the rows of one run more
 module _ (input : List ℕ) (most place count : ℕ) (buffer : List ℕ) where
-  pub runs_none : (n : ℕ) → n ≤ 0 → expansion input most place count n buffer ≡ (expanded.Rows count place, buffer)
+  pub runs_none : (n : ℕ) → n ≤ 0 → expansion input most place count n buffer ≡ (Some (record { count = count; next = place }), buffer)
   unfolding expansion
   runs_none zero h = refl
   runs_none (suc n) h = absurd (not-suc-le-zero h)
 
-  pub runs_malformed : (n : ℕ) → 0 < n → line_at input place ≡ line.Malformed → expansion input most place count n buffer ≡ (expanded.Malformed, buffer)
+  pub runs_malformed : (n : ℕ) → 0 < n → None ≡ line_at input place → expansion input most place count n buffer ≡ (None, buffer)
   unfolding expansion
   runs_malformed zero h e = absurd (not-suc-le-zero h)
-  runs_malformed (suc n) h e = rw e
+  runs_malformed (suc n) h e = rw (← e)
 
-  pub runs_crowded : (run : Numbers) (n : ℕ) → 0 < n → line_at input place ≡ line.Read run → ltb (most - count) run.first ≡ true
-      → expansion input most place count n buffer ≡ (expanded.Malformed, buffer)
-  unfolding expansion
-  runs_crowded run zero h e t = absurd (not-suc-le-zero h)
-  runs_crowded run (suc n) h e t = rw (e, t)
+  module _ {run : Numbers} (n : ℕ) (h : 0 < n) (e : Some run ≡ line_at input place) where
+    pub runs_crowded : most - count < run.first → expansion input most place count n buffer ≡ (None, buffer)
+    unfolding expansion
+    runs_crowded t = go n h
+      where
+        go : (n : ℕ) → 0 < n → expansion input most place count n buffer ≡ (None, buffer)
+        go zero h = absurd (not-suc-le-zero h)
+        go (suc n) h = rw (← e, lt-ltb (most - count) run.first t)
 
-  pub runs_next : (run : Numbers) (n : ℕ) {row : Row} {after : List ℕ} → 0 < n → line_at input place ≡ line.Read run → ltb (most - count) run.first ≡ false
-      → row ≡ row_of run → after ≡ store_rows buffer count (replicate run.first row)
-      → expansion input most place count n buffer ≡ expansion input most (place + line_bytes) (count + run.first) (n - 1) after
-  unfolding expansion
-  runs_next run zero h e t r s = absurd (not-suc-le-zero h)
-  runs_next run (suc n) h e t r s = rw (e, t, sub-one, s, r)
+    pub runs_next : {row : Row} {after : List ℕ} → run.first ≤ most - count → row ≡ row_of run → after ≡ store_rows buffer count (replicate run.first row)
+        → expansion input most place count n buffer ≡ expansion input most (place + line_bytes) (count + run.first) (n - 1) after
+    unfolding expansion
+    runs_next {row} {after} t r s = go n h
+      where
+        go : (n : ℕ) → 0 < n → expansion input most place count n buffer ≡ expansion input most (place + line_bytes) (count + run.first) (n - 1) after
+        go zero h = absurd (not-suc-le-zero h)
+        go (suc n) h = rw (← e, le-ltb (most - count) run.first t, sub-one, s, r)
 
 -- a vector: its head's line malformed; its head does not hold; its runs malformed; its runs expanded
 module _ (input : List ℕ) (place : ℕ) (buffer : List ℕ) where
-  pub vector_no_line : line_at input place ≡ line.Malformed → vector_at input place buffer ≡ (parsed.Malformed, buffer)
+  pub vector_no_line : None ≡ line_at input place → vector_at input place buffer ≡ (None, buffer)
   unfolding vector_at
-  vector_no_line e = rw e
+  vector_no_line e = rw (← e)
 
-  module _ {head : Numbers} (e : line_at input place ≡ line.Read head) where
-    pub vector_no_head : head_holds head ≡ false → vector_at input place buffer ≡ (parsed.Malformed, buffer)
+  module _ {head : Numbers} (e : Some head ≡ line_at input place) where
+    pub vector_no_head : head_holds head ≡ false → vector_at input place buffer ≡ (None, buffer)
     unfolding vector_at
-    vector_no_head f = rw (e, f)
+    vector_no_head f = rw (← e, f)
 
     module _ (f : head_holds head ≡ true) where
-      abbrev runs : Expanded × List ℕ
+      abbrev runs : Option Rows × List ℕ
       runs = expansion input (length buffer / 4) (place + line_bytes) 0 head.fifth buffer
 
-      pub vector_no_runs : {x : Expanded} {after : List ℕ} → (x, after) ≡ runs → x ≡ expanded.Malformed → vector_at input place buffer ≡ (parsed.Malformed, after)
+      pub vector_no_runs : {after : List ℕ} → (None, after) ≡ runs → vector_at input place buffer ≡ (None, after)
       unfolding vector_at
-      vector_no_runs g x = rw (e, f, ← g, x)
+      vector_no_runs g = rw (← e, f, ← g)
 
-      pub vector_runs : {x : Expanded} {after : List ℕ} {count next : ℕ} → (x, after) ≡ runs → x ≡ expanded.Rows count next
-          → vector_at input place buffer ≡ (vector_of head after (count * 4) next, after)
+      pub vector_runs : {after : List ℕ} {rows : Rows} → (Some rows, after) ≡ runs → vector_at input place buffer ≡ (vector_of head after (rows.count * 4) rows.next, after)
       unfolding vector_at
-      vector_runs g x = rw (e, f, ← g, x)
-
--- what was read stays within the input, and what was stored within the elements
-pub line_within : (n place : ℕ) {l : Line} {numbers : Numbers} → l ≡ line.Read numbers → LineWithin n place l → place + line_bytes ≤ n
-line_within n place e h = rw e at h
-
-pub rows_within : (n most place : ℕ) {x : Expanded} {count next : ℕ} → x ≡ expanded.Rows count next → RowsWithin n most place x
-    → (place ≤ next) × (next ≤ n) × (count ≤ most)
-rows_within n most place e h = rw e at h
+      vector_runs g = rw (← e, f, ← g)
 
 -- a head that holds leaves no more room than can be lent
 third_test : (s t u : Bool) → cond s false (cond t false u) ≡ true → u ≡ true
@@ -101,8 +90,8 @@ head_room head e = leb-true head.third most_elements (third_test (ltb 1 (call_nu
 
 -- a vector that is given stays within what its head and its runs give
 module _ (n most place : ℕ) where
-  given_within : (s t : Bool) (vector : Vector) → VectorWithin n most place (parsed.Given vector)
-      → VectorWithin n most place (cond s parsed.Malformed (cond t (parsed.Given vector) parsed.Malformed))
+  given_within : (s t : Bool) (vector : Vector) → VectorWithin n most place (Some vector)
+      → VectorWithin n most place (cond s None (cond t (Some vector) None))
   given_within true t vector h = tt
   given_within false true vector h = h
   given_within false false vector h = tt
@@ -111,4 +100,4 @@ module _ (n most place : ℕ) where
       → VectorWithin n most place (vector_of head buffer all next)
   unfolding vector_of
   vector_within head buffer all next p q r s =
-      given_within (ltb all head.fourth) (suits (call_of head.first) (call_dialect head.first) (take (all - head.fourth) buffer)) _ (p, q, r, omega arith)
+      given_within (ltb all head.fourth) (suits (call_of (call_number head.first)) (call_dialect head.first) (take (all - head.fourth) buffer)) _ (p, q, r, omega arith)

@@ -1,9 +1,7 @@
 -- A line of the input: five numbers of eight hexadecimal digits. Assumes nothing.
-use Rattle.std.specs.Prelude.{Bool, cond, ◌&&◌, List, ℕ, ◌+◌, ◌-◌, ◌≤◌, ltb, eqb, length, get_or}
+use Rattle.std.specs.Prelude.{Bool, cond, ◌&&◌, List, ℕ, ◌+◌, ◌-◌, ◌≤◌, ltb, eqb, length, get_or, Option, Some, None}
 use Rattle.hex_line.specs.Line.{number_at}
 use Rattle.run_vectors.specs.declared.lines.Numbers.{Numbers}
-use Rattle.run_vectors.specs.declared.lines.Line.{Line}
-use Rattle.run_vectors.specs.declared.lines.Line.TheVariants.{Read, Malformed}
 
 -- the bytes of a line
 abbrev pub line_bytes : ℕ
@@ -26,11 +24,11 @@ separated_at input place =
     && (eqb (get_or input (place + 17) 0) 32
     && (eqb (get_or input (place + 26) 0) 32 && (eqb (get_or input (place + 35) 0) 32 && eqb (get_or input (place + 44) 0) 10)))
 
-unfoldable pub line_at : List ℕ → ℕ → Line
+unfoldable pub line_at : List ℕ → ℕ → Option Numbers
 line_at input place =
-    cond (ltb (length input - place) line_bytes) Malformed (cond (separated_at input place) (Read (numbers_at input place)) Malformed)
+    cond (ltb (length input - place) line_bytes) None (cond (separated_at input place) (Some (numbers_at input place)) None)
 
 -- a line that was read ends within the n bytes of the input
-abbrev pub LineWithin : ℕ → ℕ → Line → Type 0
-LineWithin n place (Read numbers) = place + line_bytes ≤ n
-LineWithin n place Malformed = Unit {0}
+abbrev pub LineWithin : ℕ → ℕ → Option Numbers → Type 0
+LineWithin n place (Some numbers) = place + line_bytes ≤ n
+LineWithin n place None = Unit {0}

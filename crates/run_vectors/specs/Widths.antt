@@ -1,10 +1,6 @@
--- 32-bit elements as words of 16 bits. Assumes nothing.
-use Rattle.std.specs.Prelude.{List, map, ◌++◌, ℕ, ◌%◌, length, drop}
+-- Items as words of another width. Assumes nothing.
+use Rattle.std.specs.Prelude.{List, map, ◌++◌, length, drop}
 
--- the low 16 bits of each
-abbrev pub low_words : List ℕ → List ℕ
-low_words elements = map (λ x. x % 65536) elements
-
--- the same, over the first of the words
-abbrev pub over_words : List ℕ → List ℕ → List ℕ
-over_words elements words = low_words elements ++ drop (length elements) words
+-- each by f, over the first of the words
+abbrev pub over_words : {A B : Type 0} → (A → B) → List A → List B → List B
+over_words f items words = map f items ++ drop (length items) words

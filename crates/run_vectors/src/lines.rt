@@ -1,5 +1,5 @@
 // A line of the input, 45 bytes: five numbers of eight lower-case hexadecimal digits, a space after each of the first four,
-// a line feed after the fifth. A line that is cut off, or lacks a space or its line feed, is malformed; a character that is no such digit
+// a line feed after the fifth. There is none where it is cut off, or lacks a space or its line feed; a character that is no such digit
 // counts as `digit_of` (hex_line) gives it.
 ghost use Rattle.std.specs.Prelude.{◌+◌, ◌≤◌, ◌≡◌, length};
 ghost use Rattle.run_vectors.specs.Lines.{line_bytes, numbers_at, separated_at, line_at, LineWithin};
@@ -18,45 +18,30 @@ pub struct Numbers {
     pub fifth: u32,
 }
 
-#[derive(Clone, Copy)]
-pub enum Line {
-    Read(Numbers),
-    Malformed,
-}
-
-// The line at `place`.
-pub(crate) fn read_line(input: &[u8], place: usize) -> Line
+// The numbers of the line at `place`.
+#[tactic(auto, using(crate::proofs::Tests::tests), unfolding(crate::specs::Lines::line_at))]
+pub(crate) fn read_line(input: &[u8], place: usize) -> Option<Numbers>
     requires { place ≤ length input.now }
     ensures value { result ≡ line_at input.now place }
     ensures line_within { LineWithin (length input.now) place result }
 {
-    if input.len() - place < LINE_BYTES {
-        return Line::Malformed;
+    if input.len() - place < LINE_BYTES || !separated(input, place) {
+        return None;
     }
-    if !separated(input, place) {
-        return Line::Malformed;
-    }
-    Line::Read(five_numbers(input, place))
+    Some(five_numbers(input, place))
 }
 
 // Whether the spaces and the line feed stand where they must.
+#[tactic(auto, using(crate::proofs::Tests::tests), unfolding(crate::specs::Lines::separated_at))]
 fn separated(input: &[u8], place: usize) -> bool
     requires { place + line_bytes ≤ length input.now }
     ensures { result ≡ separated_at input.now place }
 {
-    if input[place + 8] != b' ' {
-        return false;
-    }
-    if input[place + 17] != b' ' {
-        return false;
-    }
-    if input[place + 26] != b' ' {
-        return false;
-    }
-    if input[place + 35] != b' ' {
-        return false;
-    }
-    input[place + 44] == b'\n'
+    input[place + 8] == b' '
+        && input[place + 17] == b' '
+        && input[place + 26] == b' '
+        && input[place + 35] == b' '
+        && input[place + 44] == b'\n'
 }
 
 fn five_numbers(input: &[u8], place: usize) -> Numbers

@@ -11,65 +11,37 @@ mod text;
 mod vectors;
 
 ghost use Rattle.std.specs.Prelude.{◌≤◌, ◌<◌, length};
-ghost use Rattle.run_vectors.specs.Text.{Pending};
 ghost use Rattle.run_vectors.specs.Vectors.{most_elements};
 
-use output::{put_malformed, write_text};
-use std::io::{Read, Stdin, Stdout};
-use vectors::{MOST_ELEMENTS, Parsed, read_vector};
+use output::Output;
+use std::io::{Read, Stdin};
+use vectors::{MOST_ELEMENTS, read_vector};
 
-// The place of the next vector, and where the text not yet written ends.
-#[derive(Clone, Copy)]
-struct Turn {
-    place: usize,
-    at: usize,
-}
-
-// Shows the vector at `place`. At a malformed one it prints `malformed` and goes to the input's end.
-fn show_vector(
-    stdout: Stdout,
-    input: &[u8],
-    place: usize,
-    elements: &mut [u32],
-    text: &mut [u8],
-    at: usize,
-) -> Turn
-    requires place_in_bounds { (place < length input.now) × (length elements.old ≤ most_elements) }
-    requires pending { Pending text.old at }
-    ensures place_lt_place { (place < result.place) × (result.place ≤ length input.now) }
-    ensures at_in_bounds { result.at ≤ length text.old }
+// Shows the vector at `place`, and answers the place of the next. At a malformed one it prints `malformed` and goes to the input's end.
+fn show_vector(input: &[u8], place: usize, elements: &mut [u32], output: &mut Output) -> usize
+    requires { (place < length input.now) × (length elements.old ≤ most_elements) }
+    ensures { (place < result) × (result ≤ length input.now) }
 {
-    let Parsed::Given(vector) = read_vector(input, place, elements) else {
-        return Turn {
-            place: input.len(),
-            at: put_malformed(stdout, text, at),
-        };
+    let Some(vector) = read_vector(input, place, elements) else {
+        output.put_malformed();
+        return input.len();
     };
-    let count = vector.elements;
-    Turn {
-        place: vector.next,
-        at: calls::show(stdout, vector, &elements[..count], text, at),
-    }
+    calls::show(vector, &elements[..vector.elements], output);
+    vector.next
 }
 
-fn show_all(stdout: Stdout, input: &[u8], elements: &mut [u32], text: &mut [u8])
-    requires { (length elements.old ≤ most_elements) × Pending text.old 0 }
+// A vector's length is known only once it is read.
+fn show_all(input: &[u8], elements: &mut [u32], output: &mut Output)
+    requires { length elements.old ≤ most_elements }
 {
-    let mut turn = Turn { place: 0, at: 0 };
-    while turn.place < input.len() {
-        turn = show_vector(stdout, input, turn.place, elements, text, turn.at);
+    let mut place = 0;
+    while place < input.len() {
+        place = show_vector(input, place, elements, output);
     }
-    write_text(stdout, text, turn.at);
+    output.write();
 }
 
-fn show_input(stdin: Stdin, stdout: Stdout, input: &mut [u8], elements: &mut [u32], text: &mut [u8])
-    requires { (length elements.old ≤ most_elements) × Pending text.old 0 }
-{
-    let count = read_full(stdin, input);
-    show_all(stdout, &input[..count], elements, text);
-}
-
-// Reads until `input` is full, the input ends or a read fails, and answers how many bytes came.
+// Reads until `input` is full, the input ends or a read fails, and answers how many bytes came. (How many come at once is known only once they are read.)
 fn read_full(mut stdin: Stdin, input: &mut [u8]) -> usize
     ensures { result ≤ length input.new }
 {
@@ -86,15 +58,16 @@ fn read_full(mut stdin: Stdin, input: &mut [u8]) -> usize
     done
 }
 
+fn show_input(stdin: Stdin, input: &mut [u8], elements: &mut [u32], output: &mut Output)
+    requires { length elements.old ≤ most_elements }
+{
+    let count = read_full(stdin, input);
+    show_all(&input[..count], elements, output);
+}
+
 fn main(rt: HostRuntime) {
     let mut input = [0u8; 2097152];
     let mut elements = [0u32; MOST_ELEMENTS];
-    let mut text = [0u8; 65536];
-    show_input(
-        rt.stdin(),
-        rt.stdout(),
-        &mut input,
-        &mut elements,
-        &mut text,
-    );
+    let mut output = Output::new(rt.stdout());
+    show_input(rt.stdin(), &mut input, &mut elements, &mut output);
 }

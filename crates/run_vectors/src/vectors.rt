@@ -6,20 +6,32 @@ ghost use Rattle.std.specs.Prelude.{◌+◌, ◌/◌, ◌≤◌, ◌≡◌, leng
 ghost use Rattle.event.specs.Scanning.{store_rows};
 ghost use Rattle.run_vectors.specs.Vectors.{call_of, head_holds, all_words16, suits, row_of, expansion, vector_of, vector_at, RowsWithin, VectorWithin};
 
-use crate::lines::{LINE_BYTES, Line, Numbers, read_line};
-use dialects::{Dialect, dialect_of};
+use crate::lines::{LINE_BYTES, Numbers, read_line};
+use dialects::Dialect;
 use event::rows::store_row;
-use event::{Row, StampOrder, order_of};
+use event::{Row, StampOrder};
 
 // The most elements that go in, and the most that are lent.
 pub(crate) const MOST_ELEMENTS: usize = 16800;
 // How many dialects there are: CALL / DIALECTS is the call, CALL % DIALECTS the dialect.
 const DIALECTS: u32 = 3;
 
-#[derive(Clone, Copy)]
+#[derive(Clone, Copy, Debug, PartialEq, Eq)]
 pub enum Call {
     Write,
     Read,
+}
+
+// The call of a number: 0 is a writing, any other a reading.
+impl From<u32> for Call {
+    ghost from_gives = { λ number call. call ≡ call_of number };
+
+    fn from(number: u32) -> Call {
+        match number {
+            0 => Call::Write,
+            _ => Call::Read,
+        }
+    }
 }
 
 // What is called, and with what: the stamp order, how many elements are lent, and how many go in. The next vector stands at `next`.
@@ -33,84 +45,59 @@ pub struct Vector {
     pub next: usize,
 }
 
+// How many rows the runs stored, and the place after the last run.
 #[derive(Clone, Copy)]
-pub enum Parsed {
-    Given(Vector),
-    Malformed,
+pub struct Rows {
+    pub count: usize,
+    pub next: usize,
 }
 
-// The rows stored, and the place after the last run.
-#[derive(Clone, Copy)]
-pub enum Expanded {
-    Rows { count: usize, next: usize },
-    Malformed,
-}
-
-// The vector at `place`, with its elements in `elements`. It is malformed where a line is, where its head has an unknown call or order or
-// too much room, where there are more elements than room for them or fewer than are cut, or where its call does not take them.
-pub(crate) fn read_vector(input: &[u8], place: usize, elements: &mut [u32]) -> Parsed
+// The vector at `place`, with its elements in `elements`. There is none where a line is malformed, where its head has an unknown call or
+// order or too much room, where there are more elements than room for them or fewer than are cut, or where its call does not take them.
+pub(crate) fn read_vector(input: &[u8], place: usize, elements: &mut [u32]) -> Option<Vector>
     requires { place ≤ length input.now }
     ensures elements_after { (result, elements.new) ≡ vector_at input.now place elements.old }
     ensures vector_within { VectorWithin (length input.now) (length elements.old) place result }
 {
-    let Line::Read(head) = read_line(input, place) else {
-        return Parsed::Malformed;
-    };
+    let head = read_line(input, place)?;
     if !head_holds(head) {
-        return Parsed::Malformed;
+        return None;
     }
-    let expanded = expand(input, place + LINE_BYTES, head.fifth as usize, elements);
-    let Expanded::Rows { count, next } = expanded else {
-        return Parsed::Malformed;
-    };
-    vector_of(head, elements, count * 4, next)
+    let rows = expand(input, place + LINE_BYTES, head.fifth as usize, elements)?;
+    vector_of(head, elements, rows.count * 4, rows.next)
 }
 
 // There are such a call and such an order, and the room is no larger than what can be lent.
+#[tactic(auto, using(crate::proofs::Tests::tests), unfolding(crate::specs::Vectors::head_holds))]
 fn head_holds(head: Numbers) -> bool
     ensures { result ≡ head_holds head }
 {
-    if 1 < head.first / DIALECTS {
-        return false;
-    }
-    if 1 < head.second {
-        return false;
-    }
-    head.third as usize <= MOST_ELEMENTS
+    head.first / DIALECTS <= 1 && head.second <= 1 && head.third as usize <= MOST_ELEMENTS
 }
 
 // The vector of a head that holds, with the elements of its runs, `all` of them before the last are cut.
-fn vector_of(head: Numbers, elements: &[u32], all: usize, next: usize) -> Parsed
+fn vector_of(head: Numbers, elements: &[u32], all: usize, next: usize) -> Option<Vector>
     requires { all ≤ length elements.now }
     ensures { result ≡ vector_of head elements.now all next }
 {
     let cut = head.fourth as usize;
     if all < cut {
-        return Parsed::Malformed;
+        return None;
     }
     let count = all - cut;
-    let call = call_of(head.first);
-    let dialect = dialect_of(head.first % DIALECTS);
+    let call = Call::from(head.first / DIALECTS);
+    let dialect = Dialect::from(head.first % DIALECTS);
     if !suits(call, dialect, &elements[..count]) {
-        return Parsed::Malformed;
+        return None;
     }
-    Parsed::Given(Vector {
+    Some(Vector {
         call,
         dialect,
-        order: order_of(head.second),
+        order: StampOrder::from(head.second),
         room: head.third as usize,
         elements: count,
         next,
     })
-}
-
-fn call_of(number: u32) -> Call
-    ensures { result ≡ call_of number }
-{
-    if number / DIALECTS == 0 {
-        return Call::Write;
-    }
-    Call::Read
 }
 
 // Whether a call takes these elements: a reading takes words of its dialect's width, and a writing any.
@@ -118,30 +105,25 @@ fn call_of(number: u32) -> Call
 fn suits(call: Call, dialect: Dialect, elements: &[u32]) -> bool
     ensures { result ≡ suits call dialect elements.now }
 {
-    let Call::Read = call else {
-        return true;
-    };
-    if dialects::width(dialect) != 16 {
-        return true;
+    match call {
+        Call::Write => true,
+        Call::Read => dialects::width(dialect) != 16 || all_words16(elements),
     }
-    all_words16(elements)
 }
 
 fn all_words16(elements: &[u32]) -> bool
     ensures { result ≡ all_words16 elements.now }
 {
-    let mut i = 0;
-    while i < elements.len() {
-        if 0xffff < elements[i] {
+    for element in elements {
+        if 0xffff < *element {
             return false;
         }
-        i += 1;
     }
     true
 }
 
 // Stores the rows of so many runs, whose lines stand from `place` on.
-fn expand(input: &[u8], place: usize, runs: usize, elements: &mut [u32]) -> Expanded
+fn expand(input: &[u8], place: usize, runs: usize, elements: &mut [u32]) -> Option<Rows>
     requires { place ≤ length input.now }
     ensures elements_after { (result, elements.new) ≡ expansion input.now (length elements.old / 4) place 0 runs elements.old }
     ensures rows_within { RowsWithin (length input.now) (length elements.old / 4) place result }
@@ -149,21 +131,17 @@ fn expand(input: &[u8], place: usize, runs: usize, elements: &mut [u32]) -> Expa
     let most = elements.len() / 4;
     let mut next = place;
     let mut count = 0;
-    let mut left = runs;
-    while left > 0 {
-        let Line::Read(run) = read_line(input, next) else {
-            return Expanded::Malformed;
-        };
+    for _ in 0..runs {
+        let run = read_line(input, next)?;
         let times = run.first as usize;
         if most - count < times {
-            return Expanded::Malformed;
+            return None;
         }
-        repeat_row(elements, count, times, row_of(run));
+        repeat_row(elements, count, times, Row::from(run));
         count += times;
         next += LINE_BYTES;
-        left -= 1;
     }
-    Expanded::Rows { count, next }
+    Some(Rows { count, next })
 }
 
 // Stores a row so many times, from row `at` on.
@@ -171,23 +149,21 @@ fn repeat_row(elements: &mut [u32], at: usize, times: usize, row: Row)
     requires { at + times ≤ length elements.old / 4 }
     ensures { elements.new ≡ store_rows elements.old at (replicate times row) }
 {
-    let mut next = at;
-    let mut left = times;
-    while left > 0 {
+    for next in at..at + times {
         store_row(elements, next, row);
-        next += 1;
-        left -= 1;
     }
 }
 
 // The row of a run's line.
-fn row_of(run: Numbers) -> Row
-    ensures { result ≡ row_of run }
-{
-    Row {
-        kind: run.second,
-        unit: run.third,
-        channel: run.fourth,
-        datum: run.fifth,
+impl From<Numbers> for Row {
+    ghost from_gives = { λ run row. row ≡ row_of run };
+
+    fn from(run: Numbers) -> Row {
+        Row {
+            kind: run.second,
+            unit: run.third,
+            channel: run.fourth,
+            datum: run.fifth,
+        }
     }
 }

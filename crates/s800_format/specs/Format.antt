@@ -1,8 +1,6 @@
 -- The code's `Format` of a channel format of the layout, and back.
 -- Assumes nothing.
 use Rattle.std.specs.Prelude.{ℕ, zero, suc, ◌+◌, ◌^◌, cond, List, eqb}
-use Rattle.event.specs.declared.kind.Kind.{Kind}
-use Rattle.event.specs.declared.kind.Kind.TheVariants.{Time, Energy}
 use Rattle.event.specs.Channels.{others}
 use Rattle.event.specs.Parser.{member}
 use Rattle.s800_layout.specs.Event.{ChannelFormat, adc_energy}
@@ -20,11 +18,12 @@ without c zero xs = 0
 without c (suc n) xs = cond (member c xs) 0 (2 ^ c) + without (suc c) n xs
 
 -- a channel format of the layout, for rows of a kind; `base` is the row channel of channel 0, and what is not allowed of channels 0 to 15 is barred
-abbrev format_for : Kind → (base : ℕ) → ChannelFormat → Format
+abbrev format_for : (kind base : ℕ) → ChannelFormat → Format
 format_for kind base f = record { kind = kind; base = base; wide = eqb f.bits adc_energy.bits; barred = without 0 16 f.allowed }
 
+-- times (kind 5), and energies (kind 6)
 abbrev pub times_of : ChannelFormat → Format
-times_of = format_for Time 0
+times_of = format_for 5 0
 
 abbrev pub energies_of : (base : ℕ) → ChannelFormat → Format
-energies_of = format_for Energy
+energies_of = format_for 6

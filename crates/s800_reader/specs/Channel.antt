@@ -3,7 +3,6 @@
 use Rattle.std.specs.Prelude.{ℕ, ◌/◌, ◌%◌, ◌^◌, ◌≤◌, cond, List, [], ◌∷◌, Ok, Err}
 use Rattle.event.specs.declared.Row.{Row}
 use Rattle.event.specs.Channels.{present}
-use Rattle.event.specs.Kind.{number}
 use Rattle.event.specs.Refusal.{Answer}
 use Rattle.event.specs.Rows.{row}
 use Rattle.s800_layout.specs.Event.{Datum, Pair, Anode, pair_energy}
@@ -25,7 +24,7 @@ unfoldable pub fault_of : Format → ℕ → ℕ → ℕ
 fault_of m blocked w = cond (present blocked (channel_of m w)) (cond (present m.barred (channel_of m w)) 10 11) 0
 
 abbrev pub channel_row : Format → Datum → Row
-channel_row m d = datum_row (number m.kind) m.base d
+channel_row m d = datum_row m.kind m.base d
 
 -- Rows of one item of a run.
 

@@ -64,7 +64,7 @@ pub(crate) fn store_channel(rows: &mut [u32], at: usize, format: Format, w: u32)
     ensures { rows.new ≡ store_row rows.old at (channel_row format (datum_of (format_of format) w)) }
 {
     let row = Row {
-        kind: format.kind.number(),
+        kind: format.kind,
         unit: 0,
         channel: format.base + channel_of(format, w),
         datum: value_of(format, w),

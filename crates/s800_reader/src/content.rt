@@ -19,6 +19,7 @@ use s800_format::pair_energies;
 pub(crate) fn read_opaque(packet: Packet, rows: &mut [u32]) -> usize
     ensures { (result ≤ packet.entry.start + packet.entry.size) × Scanned (each opaque_rows) (opaques_of packet.entry) (packet.entry.count + 1) rows.old (Ok result) rows.new }
 {
+    let mut count = packet.count + 1;
     for k in 2..packet.size {
         let row = Row {
             kind: Kind::OpaqueWord as u32,
@@ -26,9 +27,10 @@ pub(crate) fn read_opaque(packet: Packet, rows: &mut [u32]) -> usize
             channel: 0,
             datum: packet.word(k),
         };
-        store_row(rows, packet.count + k - 1, row);
+        store_row(rows, count, row);
+        count += 1;
     }
-    packet.count + packet.size - 1
+    count
 }
 
 // The pairs of an energy and a time from word 2 on, an even number of words.

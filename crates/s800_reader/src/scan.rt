@@ -20,18 +20,22 @@ pub(crate) fn scan(words: &[u16], order: StampOrder, rows: &mut [u32]) -> Result
     let begun = begin(words, order, rows)?;
     let mut next = begun.next;
     let mut count = begun.count;
-    while next < words.len() {
+    'packets: loop {
+        if words.len() <= next {
+            break 'packets Ok(count);
+        }
         let channels = open_packet(words, next, rows, count)?;
         let mut blocked = channels.format.barred;
         count = channels.count;
         for i in channels.at..channels.end {
             let w = word(words, i);
-            check_channel(channels.format, blocked, w, i)?;
+            if let Err(refusal) = check_channel(channels.format, blocked, w, i) {
+                break 'packets Err(refusal);
+            }
             blocked = with_channel(blocked, channel_of(channels.format, w));
             store_channel(rows, count, channels.format, w);
             count += 1;
         }
         next = channels.end;
     }
-    Ok(count)
 }

@@ -30,7 +30,6 @@ use Rattle.std.specs.Prelude.{Err}
 use Rattle.event.specs.declared.refusal.Refusal.{Refusal}
 use Rattle.event.proofs.Answers.{Failed}
 use Rattle.s800_writer.proofs.Failures.{row_failed}
-use Rattle.event.specs.Kind.{number as kind_number}
 
 -- what a row without a fault has
 pub record Sound (m : Format) (r : Row) : Type 0 where
@@ -40,7 +39,7 @@ pub record Sound (m : Format) (r : Row) : Type 0 where
 
 pub sound : (m : Format) (set : ℕ) (r : Row) → 0 ≡ datum_fault m set r → Sound m r
 unfolding datum_fault
-sound m set r e = go (eqb (kind_number m.kind) r.kind) (leb m.base r.channel) refl (eqb r.unit 0) (ltb (r.channel - m.base) 16) refl (ltb r.datum (2 ^ bits_of m)) refl (present set (r.channel - m.base)) e
+sound m set r e = go (eqb m.kind r.kind) (leb m.base r.channel) refl (eqb r.unit 0) (ltb (r.channel - m.base) 16) refl (ltb r.datum (2 ^ bits_of m)) refl (present set (r.channel - m.base)) e
   where
     go : (a b : Bool) → leb m.base r.channel ≡ b → (u c : Bool) → ltb (r.channel - m.base) 16 ≡ c → (d : Bool) → ltb r.datum (2 ^ bits_of m) ≡ d → (x : Bool)
         → ◌≡◌ {A = ℕ} 0 (cond a (cond b (cond ((u && c) && d) (cond x 22 0) 22) 22) 21) → Sound m r
@@ -53,23 +52,23 @@ sound m set r e = go (eqb (kind_number m.kind) r.kind) (leb m.base r.channel) re
 
 -- `set` holds the barred channels, and those of the rows before
 abbrev pub Channels : Format → ℕ → List Row → ℕ → ℕ → List ℕ → ℕ → ℕ → List ℕ → Type 0
-Channels m set rs = WritesOn 16 (up_to_stop at_packet (datum (kind_number m.kind) m.base (format_of m)) channels) (datum_words m) (Blocked m.barred set) rs []
+Channels m set rs = WritesOn 16 (up_to_stop at_packet (datum m.kind m.base (format_of m)) channels) (datum_words m) (Blocked m.barred set) rs []
 
-module _ (m : Format) {set : ℕ} {rs : List Row} {i₀ k₀ i k : ℕ} {b₀ b : List ℕ} (h : Channels m set rs i₀ k₀ b₀ i k b) (other : 1 < kind_number m.kind) (going : true ≡ not (at_packet (drop i rs)))
+module _ (m : Format) {set : ℕ} {rs : List Row} {i₀ k₀ i k : ℕ} {b₀ b : List ℕ} (h : Channels m set rs i₀ k₀ b₀ i k b) (other : 1 < m.kind) (going : true ≡ not (at_packet (drop i rs)))
     {r : Row} (e : r ≡ get_or rs i no_row) where
-  on : (st : List ℕ) (d : Datum) → ValidDatum (format_of m) st d → (l : List Row) → at_packet ((datum_row (kind_number m.kind) m.base d ∷ []) ++ l) ≡ false
-  on st d g l = ne_eqb 1 (kind_number m.kind) (λ z. omega arith)
+  on : (st : List ℕ) (d : Datum) → ValidDatum (format_of m) st d → (l : List Row) → at_packet ((datum_row m.kind m.base d ∷ []) ++ l) ≡ false
+  on st d g l = ne_eqb 1 m.kind (λ z. omega arith)
 
-  none : of_kind (kind_number m.kind) no_row ≡ false
-  none = ne_eqb (kind_number m.kind) 0 (λ z. omega arith)
+  none : of_kind m.kind no_row ≡ false
+  none = ne_eqb m.kind 0 (λ z. omega arith)
 
-  pub channels_stop : {refused : Refusal} (after : List ℕ) → Failed (datum_fault m set r) i refused → Writes 16 (each (datum_words m)) (channel_rows (kind_number m.kind) m.base (format_of m) i₀ (drop i₀ rs)) rs k₀ b₀ (Err refused) after
-  channels_stop after t = run_refused 16 at_packet h (codes_datum (kind_number m.kind) m.base (format_of m)) on refl going after
-      (row_failed (of_kind (kind_number m.kind)) (datum_of m.base) (datum_row (kind_number m.kind) m.base) (datum_checks 22 22 (format_of m) h.state) none (λ a. (tt, (tt, (tt, tt)))) rs i e (datum_fault_lem m h.holds r) t)
+  pub channels_stop : {refused : Refusal} (after : List ℕ) → Failed (datum_fault m set r) i refused → Writes 16 (each (datum_words m)) (channel_rows m.kind m.base (format_of m) i₀ (drop i₀ rs)) rs k₀ b₀ (Err refused) after
+  channels_stop after t = run_refused 16 at_packet h (codes_datum m.kind m.base (format_of m)) on refl going after
+      (row_failed (of_kind m.kind) (datum_of m.base) (datum_row m.kind m.base) (datum_checks 22 22 (format_of m) h.state) none (λ a. (tt, (tt, (tt, tt)))) rs i e (datum_fault_lem m h.holds r) t)
 
   module _ (f : 0 ≡ datum_fault m set r) where
-    taken : (i < length rs) × (datum (kind_number m.kind) m.base (format_of m) h.state i (drop i rs) ≡ ok (datum_of m.base r) (i + 1) (drop (i + 1) rs))
-    taken = row_taken (of_kind (kind_number m.kind)) (datum_of m.base) (datum_row (kind_number m.kind) m.base) (datum_checks 22 22 (format_of m) h.state) none (λ a. (tt, (tt, (tt, tt)))) rs i e (f ∙ sym (datum_fault_lem m h.holds r))
+    taken : (i < length rs) × (datum m.kind m.base (format_of m) h.state i (drop i rs) ≡ ok (datum_of m.base r) (i + 1) (drop (i + 1) rs))
+    taken = row_taken (of_kind m.kind) (datum_of m.base) (datum_row m.kind m.base) (datum_checks 22 22 (format_of m) h.state) none (λ a. (tt, (tt, (tt, tt)))) rs i e (f ∙ sym (datum_fault_lem m h.holds r))
 
     pub channels_inside : i < length rs
     channels_inside = taken.0
@@ -80,5 +79,5 @@ module _ (m : Format) {set : ℕ} {rs : List Row} {i₀ k₀ i k : ℕ} {b₀ b 
         let few = h.few in
         let l = taken.0 in
         let low : channel % 32 ≡ r.channel - m.base = let d = (sound m set r f).low in omega arith in
-        run_taken 16 at_packet h (codes_datum (kind_number m.kind) m.base (format_of m)) on refl going taken.1
+        run_taken 16 at_packet h (codes_datum m.kind m.base (format_of m)) on refl going taken.1
         (rw (s, low) (blocked_more (r.channel - m.base) h.holds)) (omega arith) (omega arith) refl (q ∙ rw (w, c)) z

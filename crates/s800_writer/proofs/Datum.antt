@@ -21,7 +21,6 @@ use Rattle.s800_layout.specs.Writing.{datum_of}
 use Rattle.s800_format.specs.declared.Format.{Format}
 use Rattle.s800_format.specs.Format.{bits_of, format_of}
 use Rattle.s800_writer.specs.Rows.{datum_fault}
-use Rattle.event.specs.Kind.{number as kind_number}
 
 nested : (a b c : Bool) → ◌≡◌ {A = ℕ} (cond a (cond b (cond c 22 0) 22) 22) (cond (a && (b && not c)) 0 22)
 nested true true true = refl
@@ -52,9 +51,9 @@ module _ (m : Format) {set : ℕ} {seen : List ℕ} (s : Blocked m.barred set se
   Free = T (leb m.base r.channel && (fields && not (present set channel)))
 
   abbrev Rules : Type 0
-  Rules = SameFields r (datum_row (kind_number m.kind) m.base (datum_of m.base r)) × Passed checks
+  Rules = SameFields r (datum_row m.kind m.base (datum_of m.base r)) × Passed checks
 
-  to : r.kind ≡ kind_number m.kind → Free → Rules
+  to : r.kind ≡ m.kind → Free → Rules
   to same t =
       let a = both (leb m.base r.channel) _ t in
       let b = both fields _ a.1 in
@@ -72,9 +71,9 @@ module _ (m : Format) {set : ℕ} {seen : List ℕ} (s : Blocked m.barred set se
       let low' : channel < 16 = omega arith in
       rw (le-leb m.base r.channel (omega (arith, h.0.2)), eq-eqb r.unit 0 h.0.1, lt-ltb channel 16 low', T_true (ltb r.datum (2 ^ bits_of m)) p.1.0, free low', T_true (member channel (others 0 16 m.barred)) p.0) p.1.1.0
 
-  pub datum_fault_lem : fault_in (row_tests (of_kind (kind_number m.kind)) (datum_of m.base) (datum_row (kind_number m.kind) m.base) (datum_checks 22 22 (format_of m) seen) r) ≡ datum_fault m set r
+  pub datum_fault_lem : fault_in (row_tests (of_kind m.kind) (datum_of m.base) (datum_row m.kind m.base) (datum_checks 22 22 (format_of m) seen) r) ≡ datum_fault m set r
   unfolding datum_fault
   datum_fault_lem =
-      test_number (tested (judged (kind_number m.kind) (datum_of m.base) (datum_row (kind_number m.kind) m.base) (datum_checks 22 22 (format_of m) seen) r (refl, (refl, (refl, tt))) from to)
+      test_number (tested (judged m.kind (datum_of m.base) (datum_row m.kind m.base) (datum_checks 22 22 (format_of m) seen) r (refl, (refl, (refl, tt))) from to)
       (leb m.base r.channel && (fields && not (present set channel))) (λ t. t) (λ t. t))
-      ∙ ap (λ (n : ℕ). cond (eqb (kind_number m.kind) r.kind) n 21) (sym (nested (leb m.base r.channel) fields (present set channel)))
+      ∙ ap (λ (n : ℕ). cond (eqb m.kind r.kind) n 21) (sym (nested (leb m.base r.channel) fields (present set channel)))

@@ -7,7 +7,7 @@ use mathlib.Core.Bool.{Bool, true, false, cond, ◌&&◌}
 use mathlib.Core.List.{List}
 use lib.Dec.{eqb, ltb, leb}
 use lib.ListN.{get_or, drop}
-use borrow.Author.Tests.{eq-eqb, ne_eqb, eqb-true, leb-true, leb-false, ltb-true, ltb-false}
+use borrow.Author.Tests.{eq-eqb, eqb-true, leb-true, leb-false, ltb-true, ltb-false}
 use Rattle.event.specs.declared.Row.{Row}
 use Rattle.event.specs.Scanning.{Writes}
 use Rattle.event.specs.Writing.{is_same_row, no_row}
@@ -79,9 +79,6 @@ some_tag (opaque intermediate_ppac) = (is.IntermediatePpac, refl)
 some_tag (opaque object_scintillator) = (is.ObjectScintillator, refl)
 
 module _ (r : Row) where
-  pub header_kind : (r.kind ≡ 1 → ⊥) → 21 ≡ header_fault r
-  header_kind z = rw (ne_eqb 1 r.kind (λ e. z (sym e)))
-
   module _ (same : r.kind ≡ 1) where
     pub header_unknown : {n : ℕ} → n ≡ id_count r.unit → n ≡ 0 → 21 ≡ header_fault r
     unfolding id_count

@@ -7,10 +7,9 @@ use mathlib.Core.Bool.{Bool, true, false, cond, ◌&&◌}
 use mathlib.Core.List.{List, []}
 use lib.Dec.{eqb}
 use lib.ListN.{get_or, drop}
-use borrow.Author.Tests.{eq-eqb, ne_eqb, eqb-true, eqb-false}
+use borrow.Author.Tests.{eq-eqb, eqb-true}
 use Rattle.event.specs.declared.Row.{Row}
 use Rattle.event.specs.declared.StampOrder.{StampOrder}
-use Rattle.event.specs.declared.StampOrder.TheVariants.{Crossed, Rising}
 use Rattle.event.specs.Parser.{Parser, fault_in, ◌>>◌}
 use Rattle.event.specs.Words.{store_word}
 use Rattle.event.specs.Scanning.{store_words, RefusedAs, Writes}
@@ -21,7 +20,7 @@ use Rattle.s800_layout.specs.Event.{Stamp, Number, stamp_tag, number_tag}
 use Rattle.s800_layout.specs.Layout.{framed, stamp_words, number_words, packet_row, stamp_row, number_row, stamp_checks, number_checks}
 use Rattle.s800_layout.specs.Writing.{of_tag, own_row, stamp_of, number_of, stamp_packet, number_packet}
 use Rattle.s800_writer.specs.Rows.{limits_fault}
-use Rattle.s800_writer.specs.Packets.{closed, own_fault, chunk_of}
+use Rattle.s800_writer.specs.Packets.{closed, own_fault}
 use Rattle.s800_writer.proofs.Closing.{closed_writes}
 use Rattle.s800_writer.proofs.Limits.{stamp_fault_lem, number_fault}
 use Rattle.s800_writer.proofs.Singles.{one_taken, one_refused}
@@ -31,28 +30,8 @@ use Rattle.event.specs.declared.refusal.Refusal.{Refusal}
 use Rattle.event.proofs.Answers.{Failed}
 use Rattle.s800_writer.proofs.Failures.{row_failed, refused_first}
 
-swapped : (a b : ℕ) → eqb a b ≡ eqb b a
-swapped a b = go (eqb a b) refl
-  where
-    go : (c : Bool) → eqb a b ≡ c → eqb a b ≡ eqb b a
-    go true e = e ∙ sym (eq-eqb b a (sym (eqb-true a b e)))
-    go false e = e ∙ sym (ne_eqb b a (λ q. eqb-false a b e (sym q)))
-
 -- the own row
 module _ (t : ℕ) (r : Row) where
-  pub own_kind : eqb r.kind 1 && eqb r.unit t ≡ false → 21 ≡ own_fault t r
-  unfolding own_fault
-  own_kind h = rw (swapped 1 r.kind, swapped t r.unit, h)
-
-  module _ (h : eqb r.kind 1 && eqb r.unit t ≡ true) where
-    pub own_good : eqb r.channel 0 && eqb r.datum 0 ≡ true → 0 ≡ own_fault t r
-    unfolding own_fault
-    own_good g = rw (swapped 1 r.kind, swapped t r.unit, h, g)
-
-    pub own_bad : eqb r.channel 0 && eqb r.datum 0 ≡ false → 22 ≡ own_fault t r
-    unfolding own_fault
-    own_bad g = rw (swapped 1 r.kind, swapped t r.unit, h, g)
-
   own_fault_lem : fault_in (row_tests (of_tag t) (λ r. tt) (λ (u : Unit {0}). packet_row t 0) (λ u. []) r) ≡ own_fault t r
   unfolding own_fault
   own_fault_lem = go (eqb 1 r.kind) refl (eqb t r.unit) refl
@@ -72,11 +51,6 @@ module _ {A : Type 0} (t : ℕ) (second : Parser Row A) (rs : List Row) (i : ℕ
   own_row_taken f = rw (row_taken (of_tag t) (λ r. tt) (λ (u : Unit {0}). packet_row t 0) (λ u. []) refl (λ u. tt) rs i e (f ∙ sym (own_fault_lem t o))).1
 
 -- the stamp, of rows 0 and 1
-pub stamp_stored : (o : StampOrder) (r : Row) (b : List ℕ) {b₁ b₂ b₃ b₄ : List ℕ} {x y : ℕ} → b₁ ≡ store_word 16 b 2 (r.datum % 65536) → x ≡ chunk_of o (r.channel % 65536) (r.datum / 65536) → b₂ ≡ store_word 16 b₁ 3 x
-    → y ≡ chunk_of o (r.datum / 65536) (r.channel % 65536) → b₃ ≡ store_word 16 b₂ 4 y → b₄ ≡ store_word 16 b₃ 5 (r.channel / 65536) → b₄ ≡ store_words 16 b 2 (stamp_words (stamp_of o r))
-stamp_stored Crossed r b p q s t u v = v ∙ rw (u, t, s, q, p)
-stamp_stored Rising r b p q s t u v = v ∙ rw (u, t, s, q, p)
-
 module _ (order : StampOrder) (rs : List Row) {o : Row} (e : o ≡ get_or rs 0 no_row) where
   abbrev stamp_rest : Parser Row Stamp
   stamp_rest = row_with (of_kind 2) (stamp_of order) (stamp_row order) (stamp_checks 22)

@@ -1,4 +1,3 @@
-pub mod Faults
 pub mod Failures
 pub mod Limits
 pub mod Datum

@@ -1,6 +1,6 @@
 -- The packets, written after their own row: from the words of their content to the packet. Over plain values.
 -- Assumes nothing.
-use Prim.Native.Nat.{ℕ, ◌+◌, ◌-◌, ◌^◌, ◌≤◌, ◌<◌}
+use Prim.Native.Nat.{ℕ, ◌+◌, ◌*◌, ◌-◌, ◌^◌, ◌≤◌, ◌<◌}
 use native.Mathlib.Omega.{arith}
 use mathlib.Core.Path.{◌≡◌, refl, sym, ap, subst, ◌∙◌}
 use mathlib.Core.List.{List, [], ◌∷◌, map}
@@ -34,7 +34,6 @@ use Rattle.event.specs.declared.Part.{Part}
 use Rattle.event.specs.declared.refusal.Refusal.{Refusal}
 use Rattle.event.proofs.Answers.{Failed}
 use Rattle.s800_writer.proofs.Failures.{row_failed, refused_first}
-use Rattle.event.specs.Kind.{number as kind_number}
 
 module _ (f : Form) (id : ℕ) (rs : List Row) (i : ℕ) where
   -- the rows after the packet's own row
@@ -56,32 +55,32 @@ module _ (m : Format) (f : ChannelFormat) (e : format_of m ≡ f) where
   data_words : (xs : List Datum) → each (datum_words m) xs ≡ map (datum_word f) xs
   data_words xs = each_map (datum_word (format_of m)) xs ∙ ap (λ (g : ChannelFormat). map (datum_word g) xs) e
 
-  channels_as : (rs : List Row) (i : ℕ) {k : ℕ} {b after : List ℕ} {r : PartAnswer} → Writes 16 (each (datum_words m)) (channel_rows (kind_number m.kind) m.base (format_of m) i (drop i rs)) rs k b r after
-      → Writes 16 (map (datum_word f)) (channel_rows (kind_number m.kind) m.base f i (drop i rs)) rs k b r after
-  channels_as rs i s = writes_as 16 (each (datum_words m)) (map (datum_word f)) (channel_rows (kind_number m.kind) m.base f i (drop i rs)) (λ xs j l p. data_words xs) (rw e at s)
+  channels_as : (rs : List Row) (i : ℕ) {k : ℕ} {b after : List ℕ} {r : PartAnswer} → Writes 16 (each (datum_words m)) (channel_rows m.kind m.base (format_of m) i (drop i rs)) rs k b r after
+      → Writes 16 (map (datum_word f)) (channel_rows m.kind m.base f i (drop i rs)) rs k b r after
+  channels_as rs i s = writes_as 16 (each (datum_words m)) (map (datum_word f)) (channel_rows m.kind m.base f i (drop i rs)) (λ xs j l p. data_words xs) (rw e at s)
 
 module _ (rs : List Row) (i : ℕ) where
   -- 0x5802
   pub flight_content : {m : Format} {b after : List ℕ} {r : PartAnswer} → m ≡ times_of flight_time
-      → Writes 16 (each (datum_words m)) (channel_rows (kind_number m.kind) m.base (format_of m) (i + 1) (drop (i + 1) rs)) rs 2 b r after
+      → Writes 16 (each (datum_words m)) (channel_rows m.kind m.base (format_of m) (i + 1) (drop (i + 1) rs)) rs 2 b r after
       → Writes 16 (content_words time_of_flight) (content_at time_of_flight 0 rs i) rs 2 b r after
   flight_content q s = channels_as (times_of flight_time) flight_time flight_format rs (i + 1) (rw q at s)
 
   -- 0x5820: the inner packet
   pub chamber_content : {m : Format} {b b' after : List ℕ} {p : Part} → m ≡ energies_of 0 energy16
-      → Writes 16 (each (datum_words m)) (channel_rows (kind_number m.kind) m.base (format_of m) (i + 1) (drop (i + 1) rs)) rs 4 b (Ok p) b'
+      → Writes 16 (each (datum_words m)) (channel_rows m.kind m.base (format_of m) (i + 1) (drop (i + 1) rs)) rs 4 b (Ok p) b'
       → after ≡ closed 2 energies_tag p.count b' → Writes 16 (content_words ion_chamber) (content_at ion_chamber 0 rs i) rs 2 b (Ok p) after
   chamber_content q s = closed_writes (map (datum_word energy16)) 2 energies_tag (content_at ion_chamber 0 rs i) (channels_as (energies_of 0 energy16) energy16 (energies_format 0) rs (i + 1) (rw q at s))
 
   pub chamber_refused : {m : Format} {b b' : List ℕ} {refused : Refusal} → m ≡ energies_of 0 energy16
-      → Writes 16 (each (datum_words m)) (channel_rows (kind_number m.kind) m.base (format_of m) (i + 1) (drop (i + 1) rs)) rs 4 b (Err refused) b'
+      → Writes 16 (each (datum_words m)) (channel_rows m.kind m.base (format_of m) (i + 1) (drop (i + 1) rs)) rs 4 b (Err refused) b'
       → Writes 16 (content_words ion_chamber) (content_at ion_chamber 0 rs i) rs 2 b (Err refused) b'
   chamber_refused q s =
       closed_refused (map (datum_word energy16)) 2 energies_tag (content_at ion_chamber 0 rs i) (channels_as (energies_of 0 energy16) energy16 (energies_format 0) rs (i + 1) (rw q at s))
 
   -- 0x58b0 with energies: the id before them
   pub energies_content_lem : (id : ℕ) → (id ≡ hits_id → ⊥) → {m : Format} {b b' after : List ℕ} {r : PartAnswer} → m ≡ energies_of (hodoscope_base id) energy16 → b' ≡ store_word 16 b 2 id
-      → Writes 16 (each (datum_words m)) (channel_rows (kind_number m.kind) m.base (format_of m) (i + 1) (drop (i + 1) rs)) rs 3 b' r after
+      → Writes 16 (each (datum_words m)) (channel_rows m.kind m.base (format_of m) (i + 1) (drop (i + 1) rs)) rs 3 b' r after
       → Writes 16 (content_words hodoscope) (content_at hodoscope id rs i) rs 2 b r after
   energies_content_lem id z q w s = rw (ne_eqb id hits_id z) (writes_part 16 (map (datum_word energy16)) (id ∷ []) (channel_rows 6 (hodoscope_base id) energy16 (i + 1) (drop (i + 1) rs)) (energies id) (content_words hodoscope)
       (λ xs. refl) refl w (channels_as (energies_of (hodoscope_base id) energy16) energy16 (energies_format (hodoscope_base id)) rs (i + 1) (rw q at s)))
@@ -93,7 +92,7 @@ module _ (rs : List Row) (i : ℕ) where
 
   -- 0x58c0: the id before the energies
   pub adc_content : (id : ℕ) {m : Format} {b b' after : List ℕ} {r : PartAnswer} → m ≡ energies_of (adc_base id) adc_energy → b' ≡ store_word 16 b 2 id
-      → Writes 16 (each (datum_words m)) (channel_rows (kind_number m.kind) m.base (format_of m) (i + 1) (drop (i + 1) rs)) rs 3 b' r after
+      → Writes 16 (each (datum_words m)) (channel_rows m.kind m.base (format_of m) (i + 1) (drop (i + 1) rs)) rs 3 b' r after
       → Writes 16 (content_words vme_adc) (content_at vme_adc id rs i) rs 2 b r after
   adc_content id q w s = writes_part 16 (map (datum_word adc_energy)) (id ∷ []) (channel_rows 6 (adc_base id) adc_energy (i + 1) (drop (i + 1) rs)) (λ xs. record { id = id; energies = xs }) (content_words vme_adc)
       (λ xs. refl) refl w (channels_as (energies_of (adc_base id) adc_energy) adc_energy (adc_format (adc_base id)) rs (i + 1) (rw q at s))
@@ -115,7 +114,7 @@ module _ (rs : List Row) (i : ℕ) where
     pattern_inside f = (one_taken 4 0 0 31 (λ r. r.datum) (row 4 0 0) (below_checks 22 pattern_bound) (plain_fault 4 31) refl (λ a. (tt, tt)) rs (i + 1) e f).0
 
     pub trigger_content : {m : Format} {b b' after : List ℕ} {p : PartAnswer} → 0 ≡ limits_fault 4 0 0 31 r → m ≡ times_of trigger_time → b' ≡ store_word 16 b 2 r.datum
-        → Writes 16 (each (datum_words m)) (channel_rows (kind_number m.kind) m.base (format_of m) (i + 2) (drop (i + 2) rs)) rs 3 b' p after
+        → Writes 16 (each (datum_words m)) (channel_rows m.kind m.base (format_of m) (i + 2) (drop (i + 2) rs)) rs 3 b' p after
         → Writes 16 (content_words trigger) (content_at trigger 0 rs i) rs 2 b p after
     trigger_content f q w s =
         let t = (one_taken 4 0 0 31 (λ r. r.datum) (row 4 0 0) (below_checks 22 pattern_bound) (plain_fault 4 31) refl (λ a. (tt, tt)) rs (i + 1) e f).1 in
@@ -155,9 +154,10 @@ module _ (rs : List Row) (i : ℕ) {r : Row} (e : r ≡ get_or rs i no_row) wher
   pub hits_inside : 0 ≡ limits_fault 10 65535 65535 65535 r → i < length rs
   hits_inside f = (one_taken 10 65535 65535 65535 registers_of register_row (register_checks 22) hits_fault refl (λ a. (tt, (tt, (tt, tt)))) rs i e f).0
 
-  pub hits_taken : {b b₁ b₂ b₃ : List ℕ} → 0 ≡ limits_fault 10 65535 65535 65535 r → 1 ≤ i → b₁ ≡ store_word 16 b 3 r.unit → b₂ ≡ store_word 16 b₁ 4 r.channel → b₃ ≡ store_word 16 b₂ 5 r.datum
-      → Writes 16 register_words (registers i (drop i rs)) rs 3 b (Ok (part (i + 1) 6)) b₃
-  hits_taken f low p q s =
+  pub hits_taken : {n : ℕ} {b b₁ b₂ b₃ : List ℕ} → 0 ≡ limits_fault 10 65535 65535 65535 r → n ≤ 4 * i → b₁ ≡ store_word 16 b n r.unit → b₂ ≡ store_word 16 b₁ (n + 1) r.channel
+      → b₃ ≡ store_word 16 b₂ (n + 2) r.datum → Writes 16 register_words (registers i (drop i rs)) rs n b (Ok (part (i + 1) (n + 3))) b₃
+  hits_taken {n} {b} {b₁} {b₂} f few p q s =
       let t = one_taken 10 65535 65535 65535 registers_of register_row (register_checks 22) hits_fault refl (λ a. (tt, (tt, (tt, tt)))) rs i e f in
       let l = t.0 in
-      writes_done 16 register_words t.1 refl refl (s ∙ rw (q, p)) (omega arith) (omega arith)
+      let two : n + 2 ≡ n + 1 + 1 = omega arith in
+      writes_done 16 register_words t.1 refl refl (s ∙ rw (two, q, p)) (omega arith) (omega arith)

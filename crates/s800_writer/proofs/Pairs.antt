@@ -1,6 +1,6 @@
 -- The loop over pairs of an energy and a time: one turn, over plain values.
 -- Assumes nothing.
-use Prim.Native.Nat.{ℕ, ◌+◌, ◌*◌, ◌-◌, ◌%◌, ◌^◌, ◌<◌}
+use Prim.Native.Nat.{ℕ, ◌+◌, ◌-◌, ◌%◌, ◌^◌, ◌<◌}
 use native.Mathlib.Omega.{arith}
 use mathlib.Core.Path.{◌≡◌, refl, sym, ap, subst, ◌∙◌}
 use mathlib.Core.Bool.{Bool, true, false, cond, not, ◌&&◌}
@@ -12,7 +12,7 @@ use Rattle.event.specs.declared.Row.{Row}
 use Rattle.event.specs.Channels.{insert, Blocked}
 use Rattle.event.specs.Parser.{ok, fault_in, many, each}
 use Rattle.event.specs.Rows.{row}
-use Rattle.event.specs.Words.{store_word, below_checks}
+use Rattle.event.specs.Words.{below_checks}
 use Rattle.event.specs.Scanning.{store_words, RefusedAs, Writes}
 use Rattle.event.specs.Writing.{row_tests, of_kind, no_row}
 use Rattle.event.proofs.ChannelLaws.{blocked_more}
@@ -32,14 +32,6 @@ use Rattle.std.specs.Prelude.{Err}
 use Rattle.event.specs.declared.refusal.Refusal.{Refusal}
 use Rattle.event.proofs.Answers.{Failed}
 use Rattle.s800_writer.proofs.Failures.{row_failed, refused_first}
-
--- the words of a pair, stored one after the other
-pub pair_stored : (e t : Row) (at : ℕ) (b : List ℕ) {b₁ b₂ : List ℕ} → b₁ ≡ store_word 16 b at (e.channel * 4096 + e.datum) → b₂ ≡ store_word 16 b₁ (at + 1) (e.channel * 4096 + t.datum)
-    → b₂ ≡ store_words 16 b at (pair_words (pair_of e t))
-pair_stored e t at b p q =
-    let z : e.channel ≡ e.channel - 0 = omega arith in
-    q ∙ ap (λ (l : List ℕ). store_word 16 l (at + 1) (e.channel * 4096 + t.datum)) p
-    ∙ ap (λ (c : ℕ). store_word 16 (store_word 16 b at (c * 4096 + e.datum)) (at + 1) (c * 4096 + t.datum)) z
 
 -- the number of a time without a fault
 pub short_time : (channel : ℕ) (r : Row) → 0 ≡ time_fault channel r → r.datum < 2 ^ 12

@@ -1,6 +1,6 @@
 -- The refusal that one row meets, as the code finds it (the contracts of private functions).
 -- Assumes nothing.
-use Rattle.std.specs.Prelude.{ℕ, ◌*◌, ◌-◌, ◌^◌, ◌≤◌, cond, ◌&&◌, List, [], ◌∷◌, eqb, ltb, leb, length}
+use Rattle.std.specs.Prelude.{ℕ, ◌-◌, ◌^◌, cond, ◌&&◌, List, [], ◌∷◌, eqb, ltb, leb}
 use Rattle.event.specs.declared.Row.{Row}
 use Rattle.event.specs.Channels.{present}
 use Rattle.event.specs.Parser.{fault_in}
@@ -10,7 +10,6 @@ use Rattle.s800_layout.specs.Layout.{datum_word, sample_datum_word, sample_datum
 use Rattle.s800_layout.specs.Writing.{datum_of, sample_datum_of}
 use Rattle.s800_format.specs.declared.Format.{Format}
 use Rattle.s800_format.specs.Format.{bits_of, format_of}
-use Rattle.event.specs.Kind.{number as kind_number}
 
 -- 21: not of this kind; 22: a field above its largest number; 0 for none
 unfoldable pub limits_fault : (kind unit channel datum : ℕ) → Row → ℕ
@@ -19,7 +18,7 @@ limits_fault kind unit channel datum r = cond (eqb kind r.kind) (cond ((leb r.un
 -- a time or an energy after the channels of a set: 21 its kind; 22 its unit, its channel (not allowed, or seen), its number; 0 for none
 unfoldable pub datum_fault : Format → (set : ℕ) → Row → ℕ
 datum_fault m set r =
-    cond (eqb (kind_number m.kind) r.kind)
+    cond (eqb m.kind r.kind)
     (cond (leb m.base r.channel)
     (cond ((eqb r.unit 0 && ltb (r.channel - m.base) 16) && ltb r.datum (2 ^ bits_of m))
     (cond (present set (r.channel - m.base)) 22 0)
@@ -45,8 +44,3 @@ datum_words m d = datum_word (format_of m) d ∷ []
 -- a pair of two rows
 abbrev pub pair_of : (energy time : Row) → Pair
 pair_of e t = record { energy = datum_of 0 e; time = t.datum }
-
--- rows from i on, after k words
-pub record RunAt (rs : List Row) (i k : ℕ) : Type 0 where
-  pub inside : i ≤ length rs
-  pub few : k ≤ 4 * i

@@ -1,6 +1,7 @@
-// The packets of times or energies, and the hodoscope's hits. A packet's function writes the packet whose own row is row `own`, at
-// the front of `part`.
-ghost use Rattle.std.specs.Prelude.{◌≤◌, ◌<◌, length, drop};
+// The packets of times or energies, and the hodoscope's hits: what follows a packet's own row, at the front of `part`.
+#![tactic(auto, using(event::proofs::RowsIn::rows_count))]
+
+ghost use Rattle.std.specs.Prelude.{◌≤◌, drop};
 ghost use Rattle.event.specs.Scanning.{Writes};
 ghost use Rattle.event.specs.Writing.{rows_in};
 ghost use Rattle.s800_layout.specs.Layout.{register_words};
@@ -11,6 +12,7 @@ ghost use Rattle.s800_writer.specs.Packets.{WritesPacket};
 use crate::content::{channel_word, write_channels};
 use crate::part::close;
 use crate::row::{check_channel, check_limits};
+use crate::run::{OwnRow, Run};
 use event::Part;
 use event::kind::Kind;
 use event::refusal::Refusal;
@@ -20,58 +22,74 @@ use s800_format::tag::Tag;
 use s800_format::{adc_energies, energies, flight_times, trigger_times};
 
 // 0x5801: the pattern, then times.
-pub(crate) fn write_trigger(rows: &[u32], own: usize, part: &mut [u16]) -> Result<Part, Refusal>
-    requires { own < length (rows_in rows.now) }
-    ensures { WritesPacket trigger 0 (rows_in rows.now) own part.old result part.new }
+pub(crate) fn write_trigger(own: OwnRow, part: &mut [u16]) -> Result<Part, Refusal>
+    ensures { WritesPacket trigger 0 (rows_in own.entry.rows.now) own.entry.at part.old result part.new }
 {
-    let pattern = row_at(rows, own + 1);
+    let pattern = row_at(own.rows, own.at + 1);
     check_limits(
         pattern,
         Kind::TriggerPattern,
         0,
         0,
         s800_format::LARGEST_PATTERN,
-        own + 1,
+        own.at + 1,
     )?;
     store_word(part, 2, pattern.datum as usize);
-    let times = write_channels(rows, own + 2, trigger_times(), part, 3)?;
+    let times = write_channels(
+        Run {
+            rows: own.rows,
+            from: own.at + 2,
+            first: 3,
+        },
+        trigger_times(),
+        part,
+    )?;
     close(part, 0, Tag::Trigger, times.count);
     Ok(times)
 }
 
 // 0x5802: times.
-pub(crate) fn write_time_of_flight(
-    rows: &[u32],
-    own: usize,
-    part: &mut [u16],
-) -> Result<Part, Refusal>
-    requires { own < length (rows_in rows.now) }
-    ensures { WritesPacket time_of_flight 0 (rows_in rows.now) own part.old result part.new }
+pub(crate) fn write_time_of_flight(own: OwnRow, part: &mut [u16]) -> Result<Part, Refusal>
+    ensures { WritesPacket time_of_flight 0 (rows_in own.entry.rows.now) own.entry.at part.old result part.new }
 {
-    let times = write_channels(rows, own + 1, flight_times(), part, 2)?;
+    let times = write_channels(
+        Run {
+            rows: own.rows,
+            from: own.at + 1,
+            first: 2,
+        },
+        flight_times(),
+        part,
+    )?;
     close(part, 0, Tag::TimeOfFlight, times.count);
     Ok(times)
 }
 
 // 0x5820: one inner packet 0x5821 that fills it, of energies.
-pub(crate) fn write_ion_chamber(rows: &[u32], own: usize, part: &mut [u16]) -> Result<Part, Refusal>
-    requires { own < length (rows_in rows.now) }
-    ensures { WritesPacket ion_chamber 0 (rows_in rows.now) own part.old result part.new }
+pub(crate) fn write_ion_chamber(own: OwnRow, part: &mut [u16]) -> Result<Part, Refusal>
+    ensures { WritesPacket ion_chamber 0 (rows_in own.entry.rows.now) own.entry.at part.old result part.new }
 {
-    let written = write_channels(rows, own + 1, energies(0), part, 4)?;
+    let written = write_channels(
+        Run {
+            rows: own.rows,
+            from: own.at + 1,
+            first: 4,
+        },
+        energies(0),
+        part,
+    )?;
     close(part, 2, Tag::IonChamberEnergies, written.count);
     close(part, 0, Tag::IonChamber, written.count);
     Ok(written)
 }
 
 // 0x58a0: one energy.
-pub(crate) fn write_object_pin(rows: &[u32], own: usize, part: &mut [u16]) -> Result<Part, Refusal>
-    requires { own < length (rows_in rows.now) }
-    ensures { WritesPacket object_pin 0 (rows_in rows.now) own part.old result part.new }
+pub(crate) fn write_object_pin(own: OwnRow, part: &mut [u16]) -> Result<Part, Refusal>
+    ensures { WritesPacket object_pin 0 (rows_in own.entry.rows.now) own.entry.at part.old result part.new }
 {
     let format = energies(0);
-    let row = row_at(rows, own + 1);
-    check_channel(format, 0, row, own + 1)?;
+    let row = row_at(own.rows, own.at + 1);
+    check_channel(format, 0, row, own.at + 1)?;
     store_word(
         part,
         2,
@@ -79,60 +97,72 @@ pub(crate) fn write_object_pin(rows: &[u32], own: usize, part: &mut [u16]) -> Re
     );
     close(part, 0, Tag::ObjectPin, 3);
     Ok(Part {
-        next: own + 2,
+        next: own.at + 2,
         count: 3,
     })
 }
 
 // 0x58b0: id 0 or 1, then energies, the row channel 16 times the id up; or id 2.
-pub(crate) fn write_hodoscope(
-    rows: &[u32],
-    own: usize,
-    id: u32,
-    part: &mut [u16],
-) -> Result<Part, Refusal>
-    requires { (own < length (rows_in rows.now)) × (id ≤ 2) }
-    ensures { WritesPacket hodoscope id (rows_in rows.now) own part.old result part.new }
+pub(crate) fn write_hodoscope(own: OwnRow, id: u32, part: &mut [u16]) -> Result<Part, Refusal>
+    requires { id ≤ 2 }
+    ensures { WritesPacket hodoscope id (rows_in own.entry.rows.now) own.entry.at part.old result part.new }
 {
     store_word(part, 2, id as usize);
     if id == s800_format::HITS_ID {
-        let hits = write_hits(rows, own + 1, part)?;
+        let hits = write_hits(
+            Run {
+                rows: own.rows,
+                from: own.at + 1,
+                first: 3,
+            },
+            part,
+        )?;
         close(part, 0, Tag::Hodoscope, hits.count);
         return Ok(hits);
     }
-    let written = write_channels(rows, own + 1, energies(16 * id), part, 3)?;
+    let written = write_channels(
+        Run {
+            rows: own.rows,
+            from: own.at + 1,
+            first: 3,
+        },
+        energies(16 * id),
+        part,
+    )?;
     close(part, 0, Tag::Hodoscope, written.count);
     Ok(written)
 }
 
-// Hit registers A and B, and the time, as words 3 to 5 of the packet.
-fn write_hits(rows: &[u32], at: usize, part: &mut [u16]) -> Result<Part, Refusal>
-    requires { 1 ≤ at }
-    ensures { Writes 16 register_words (registers at (drop at (rows_in rows.now))) (rows_in rows.now) 3 part.old result part.new }
+// Hit registers A and B, and the time.
+fn write_hits(run: Run, part: &mut [u16]) -> Result<Part, Refusal>
+    ensures { Writes 16 register_words (registers run.entry.from (drop run.entry.from (rows_in run.entry.rows.now))) (rows_in run.entry.rows.now) run.entry.first part.old result part.new }
 {
-    let row = row_at(rows, at);
-    check_limits(row, Kind::HodoscopeHits, 65535, 65535, 65535, at)?;
-    store_word(part, 3, row.unit as usize);
-    store_word(part, 4, row.channel as usize);
-    store_word(part, 5, row.datum as usize);
+    let row = row_at(run.rows, run.from);
+    check_limits(row, Kind::HodoscopeHits, 65535, 65535, 65535, run.from)?;
+    store_word(part, run.first, row.unit as usize);
+    store_word(part, run.first + 1, row.channel as usize);
+    store_word(part, run.first + 2, row.datum as usize);
     Ok(Part {
-        next: at + 1,
-        count: 6,
+        next: run.from + 1,
+        count: run.first + 3,
     })
 }
 
 // 0x58c0: id 0 to 3, then energies, the row channel 8 times the id up.
-pub(crate) fn write_vme_adc(
-    rows: &[u32],
-    own: usize,
-    id: u32,
-    part: &mut [u16],
-) -> Result<Part, Refusal>
-    requires { (own < length (rows_in rows.now)) × (id ≤ 3) }
-    ensures { WritesPacket vme_adc id (rows_in rows.now) own part.old result part.new }
+pub(crate) fn write_vme_adc(own: OwnRow, id: u32, part: &mut [u16]) -> Result<Part, Refusal>
+    requires { id ≤ 3 }
+    ensures { WritesPacket vme_adc id (rows_in own.entry.rows.now) own.entry.at part.old result part.new }
 {
     store_word(part, 2, id as usize);
-    let written = write_channels(rows, own + 1, adc_energies(8 * id), part, 3)?;
+    let written = write_channels(
+        Run {
+            rows: own.rows,
+            from: own.at + 1,
+            first: 3,
+        },
+        adc_energies(8 * id),
+        part,
+    )?;
     close(part, 0, Tag::VmeAdc, written.count);
     Ok(written)
 }

@@ -1,5 +1,5 @@
 // The groups of samples of a CRDC, up to the anode's row: a head, a row of kind 8, then one to four rows of kind 12 (document 02, #103).
-// Their words, from word `first` of the packet on.
+// Where a group ends shows only once it is read, so that no `for` goes over them.
 ghost use Rattle.std.specs.Prelude.{◌≤◌, ◌≡◌, drop};
 ghost use Rattle.event.specs.Parser.{many, several, each};
 ghost use Rattle.event.specs.Words.{store_word};
@@ -7,9 +7,10 @@ ghost use Rattle.event.specs.Scanning.{Writes};
 ghost use Rattle.event.specs.Writing.{rows_in, at_kind};
 ghost use Rattle.s800_layout.specs.Layout.{sample_head_word, sample_datum_word, group_words, above};
 ghost use Rattle.s800_layout.specs.Writing.{sample_head_of, sample_datum_of, sample_datum, after_data, group};
-ghost use Rattle.s800_writer.specs.Rows.{RunAt, sample_datum_words};
+ghost use Rattle.s800_writer.specs.Rows.{sample_datum_words};
 
 use crate::row::{before_kind, check_limits, check_sample_datum};
+use crate::run::Run;
 use event::kind::Kind;
 use event::refusal::{Fault, Refusal, refuse};
 use event::rows::row_at;
@@ -17,27 +18,29 @@ use event::words::store_word;
 use event::{Part, Row};
 
 // A good head is neither the anode's row nor past the last one, so the end is looked for only where a row is no good head.
-pub(crate) fn write_samples(
-    rows: &[u32],
-    from: usize,
-    words: &mut [u16],
-    first: usize,
-) -> Result<Part, Refusal>
-    requires { RunAt (rows_in rows.now) from first }
-    ensures { Writes 16 (each group_words) (several group (at_kind 9) from (drop from (rows_in rows.now))) (rows_in rows.now) first words.old result words.new }
+pub(crate) fn write_samples(run: Run, words: &mut [u16]) -> Result<Part, Refusal>
+    ensures { Writes 16 (each group_words) (several group (at_kind 9) run.entry.from (drop run.entry.from (rows_in run.entry.rows.now))) (rows_in run.entry.rows.now) run.entry.first words.old result words.new }
 {
-    let mut i = from;
-    let mut at = first;
+    let mut i = run.from;
+    let mut at = run.first;
     loop {
-        let head = row_at(rows, i);
+        let head = row_at(run.rows, i);
         if let Err(refusal) = check_limits(head, Kind::SampleHead, 511, 63, 0, i) {
-            if before_kind(rows, i, Kind::Anode) {
+            if before_kind(run.rows, i, Kind::Anode) {
                 return Err(refusal);
             }
             return Ok(Part { next: i, count: at });
         }
         store_head(words, at, head);
-        let data = write_data(rows, i + 1, head, words, at + 1)?;
+        let data = write_data(
+            Run {
+                rows: run.rows,
+                from: i + 1,
+                first: at + 1,
+            },
+            head,
+            words,
+        )?;
         if data.next == i + 1 {
             return refuse(Fault::Kind, data.next);
         }
@@ -47,21 +50,15 @@ pub(crate) fn write_samples(
 }
 
 // The rows of kind 12 behind their head, as many as there are.
-fn write_data(
-    rows: &[u32],
-    from: usize,
-    head: Row,
-    words: &mut [u16],
-    first: usize,
-) -> Result<Part, Refusal>
-    requires { RunAt (rows_in rows.now) from first × (head.unit ≤ 511) × (head.channel ≤ 63) }
-    ensures { Writes 16 (each sample_datum_words) (many (sample_datum (sample_head_of head)) above after_data 0 from (drop from (rows_in rows.now))) (rows_in rows.now) first words.old result words.new }
+fn write_data(run: Run, head: Row, words: &mut [u16]) -> Result<Part, Refusal>
+    requires { (head.unit ≤ 511) × (head.channel ≤ 63) }
+    ensures { Writes 16 (each sample_datum_words) (many (sample_datum (sample_head_of head)) above after_data 0 run.entry.from (drop run.entry.from (rows_in run.entry.rows.now))) (rows_in run.entry.rows.now) run.entry.first words.old result words.new }
 {
     let mut least: u32 = 0;
-    let mut i = from;
-    let mut at = first;
+    let mut i = run.from;
+    let mut at = run.first;
     loop {
-        let row = row_at(rows, i);
+        let row = row_at(run.rows, i);
         if row.kind != Kind::SampleDatum as u32 {
             return Ok(Part { next: i, count: at });
         }

@@ -8,6 +8,7 @@ mod other_packets;
 mod packet;
 mod part;
 mod row;
+mod run;
 mod whole;
 
 ghost use Rattle.std.specs.Prelude.{◌≡◌, length};

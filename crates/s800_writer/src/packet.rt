@@ -1,5 +1,5 @@
 // One packet after the stamp and the event number.
-ghost use Rattle.std.specs.Prelude.{◌≤◌, ◌<◌, ◌≡◌, length, drop};
+ghost use Rattle.std.specs.Prelude.{◌≤◌, ◌≡◌, drop};
 ghost use Rattle.event.specs.Refusal.{verdict};
 ghost use Rattle.event.specs.Scanning.{Writes};
 ghost use Rattle.event.specs.Writing.{rows_in};
@@ -14,6 +14,7 @@ use crate::channel_packets::{
     write_vme_adc,
 };
 use crate::other_packets::{write_crdc, write_opaque, write_scintillator};
+use crate::run::OwnRow;
 use event::kind::Kind;
 use event::refusal::{Fault, Refusal, refuse};
 use event::rows::row_at;
@@ -44,6 +45,7 @@ fn id_count(tag: u32) -> u32
 }
 
 // A packet's own row.
+#[tactic(auto, using(crate::proofs::Headers::header_unknown, crate::proofs::Headers::header_good, crate::proofs::Headers::header_bad))]
 fn check_header(row: Row, place: usize) -> Result<(), Refusal>
     ensures { result ≡ verdict (header_fault row) place }
 {
@@ -61,38 +63,31 @@ fn check_header(row: Row, place: usize) -> Result<(), Refusal>
 }
 
 // The packet after its own row, which has this tag and this id.
-fn write_content(
-    rows: &[u32],
-    own: usize,
-    tag: Tag,
-    id: u32,
-    part: &mut [u16],
-) -> Result<Part, Refusal>
-    requires { (own < length (rows_in rows.now)) × (tag_of (form_of (number tag)) ≡ number tag) × (id ≤ largest_id (form_of (number tag))) }
-    ensures { WritesPacket (form_of (number tag)) id (rows_in rows.now) own part.old result part.new }
+fn write_content(own: OwnRow, tag: Tag, id: u32, part: &mut [u16]) -> Result<Part, Refusal>
+    requires { (tag_of (form_of (number tag)) ≡ number tag) × (id ≤ largest_id (form_of (number tag))) }
+    ensures { WritesPacket (form_of (number tag)) id (rows_in own.entry.rows.now) own.entry.at part.old result part.new }
 {
     match tag {
-        Tag::Trigger => write_trigger(rows, own, part),
-        Tag::TimeOfFlight => write_time_of_flight(rows, own, part),
-        Tag::Scintillator => write_scintillator(rows, own, part),
-        Tag::IonChamber => write_ion_chamber(rows, own, part),
-        Tag::Crdc => write_crdc(rows, own, id, part),
-        Tag::Hodoscope => write_hodoscope(rows, own, id, part),
-        Tag::ObjectPin => write_object_pin(rows, own, part),
-        Tag::VmeAdc => write_vme_adc(rows, own, id, part),
-        _ => write_opaque(rows, own, tag, part),
+        Tag::Trigger => write_trigger(own, part),
+        Tag::TimeOfFlight => write_time_of_flight(own, part),
+        Tag::Scintillator => write_scintillator(own, part),
+        Tag::IonChamber => write_ion_chamber(own, part),
+        Tag::Crdc => write_crdc(own, id, part),
+        Tag::Hodoscope => write_hodoscope(own, id, part),
+        Tag::ObjectPin => write_object_pin(own, part),
+        Tag::VmeAdc => write_vme_adc(own, id, part),
+        _ => write_opaque(own, tag, part),
     }
 }
 
-// The packet whose own row is row `own`, at the front of `part`.
-pub(crate) fn write_packet(rows: &[u32], own: usize, part: &mut [u16]) -> Result<Part, Refusal>
-    requires { own < length (rows_in rows.now) }
-    ensures { Writes 16 packet_words (packet own (drop own (rows_in rows.now))) (rows_in rows.now) 0 part.old result part.new }
+// A packet by its own row, at the front of `part`.
+pub(crate) fn write_packet(own: OwnRow, part: &mut [u16]) -> Result<Part, Refusal>
+    ensures { Writes 16 packet_words (packet own.entry.at (drop own.entry.at (rows_in own.entry.rows.now))) (rows_in own.entry.rows.now) 0 part.old result part.new }
 {
-    let row = row_at(rows, own);
-    check_header(row, own)?;
+    let row = row_at(own.rows, own.at);
+    check_header(row, own.at)?;
     match Tag::of(row.unit) {
-        Some(tag) => write_content(rows, own, tag, row.channel, part),
+        Some(tag) => write_content(own, tag, row.channel, part),
         None => unreachable!(),
     }
 }

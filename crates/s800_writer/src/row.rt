@@ -15,6 +15,7 @@ use event::rows::row_at;
 use s800_format::Format;
 
 // Row `at` is there, and of another kind than this one.
+#[tactic(auto, using(crate::proofs::Limits::other_there, crate::proofs::Limits::rows_ended))]
 pub(crate) fn before_kind(rows: &[u32], at: usize, kind: Kind) -> bool
     ensures { result ≡ not (at_kind (number kind) (drop at (rows_in rows.now))) }
 {
@@ -22,6 +23,7 @@ pub(crate) fn before_kind(rows: &[u32], at: usize, kind: Kind) -> bool
 }
 
 // A row of this kind, of which each field has a largest number.
+#[tactic(auto, unfolding(crate::specs::Rows::limits_fault))]
 pub(crate) fn check_limits(
     row: Row,
     kind: Kind,
@@ -49,6 +51,7 @@ fn value_end(format: Format) -> u32
 }
 
 // A time or an energy. The set has the channels not allowed, and those seen.
+#[tactic(auto, unfolding(crate::specs::Rows::datum_fault))]
 pub(crate) fn check_channel(
     format: Format,
     blocked: u32,
@@ -57,7 +60,7 @@ pub(crate) fn check_channel(
 ) -> Result<(), Refusal>
     ensures { result ≡ verdict (datum_fault format blocked row) place }
 {
-    if row.kind != format.kind.number() {
+    if row.kind != format.kind {
         return refuse(Fault::Kind, place);
     }
     if row.channel < format.base {
@@ -74,6 +77,7 @@ pub(crate) fn check_channel(
 }
 
 // The time of a pair, of the energy's channel.
+#[tactic(auto, unfolding(crate::specs::Rows::time_fault))]
 pub(crate) fn check_time(row: Row, channel: u32, place: usize) -> Result<(), Refusal>
     ensures { result ≡ verdict (time_fault channel row) place }
 {

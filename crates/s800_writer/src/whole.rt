@@ -8,12 +8,12 @@ ghost use Rattle.s800_layout.specs.Event.{stamp_tag, number_tag};
 ghost use Rattle.s800_layout.specs.Layout.{framed, stamp_words, number_words, packet_words, words as words_of};
 ghost use Rattle.s800_layout.specs.Writing.{stamp_of, stamp_packet, number_packet, packet, event_rows_up_to};
 ghost use Rattle.s800_format.specs.Tag.{number};
-ghost use Rattle.s800_writer.specs.Rows.{RunAt};
 ghost use Rattle.s800_writer.specs.Packets.{own_fault, chunk_of};
 
 use crate::packet::write_packet;
 use crate::part::close;
 use crate::row::check_limits;
+use crate::run::{OwnRow, Run};
 use event::kind::Kind;
 use event::refusal::{Fault, Refusal, refuse};
 use event::rows::row_at;
@@ -22,6 +22,7 @@ use event::{Part, Row, StampOrder};
 use s800_format::tag::Tag;
 
 // The own row of a packet with this tag and no id.
+#[tactic(auto, unfolding(crate::specs::Packets::own_fault))]
 fn check_own(row: Row, tag: Tag, place: usize) -> Result<(), Refusal>
     ensures { result ≡ verdict (own_fault (number tag) row) place }
 {
@@ -82,21 +83,21 @@ fn write_number(rows: &[u32], part: &mut [u16]) -> Result<Part, Refusal>
     Ok(Part { next: 4, count: 5 })
 }
 
-// The packets from row `from` on, each in its part of the words, from word `first` on.
-fn write_packets(
-    rows: &[u32],
-    from: usize,
-    words: &mut [u16],
-    first: usize,
-) -> Result<Part, Refusal>
-    requires { RunAt (rows_in rows.now) from first }
-    ensures { Writes 16 (each packet_words) (several packet ended from (drop from (rows_in rows.now))) (rows_in rows.now) first words.old result words.new }
+// The packets, each in its part of the words. Where one ends shows only once it is written, so that no `for` goes over them.
+fn write_packets(run: Run, words: &mut [u16]) -> Result<Part, Refusal>
+    ensures { Writes 16 (each packet_words) (several packet ended run.entry.from (drop run.entry.from (rows_in run.entry.rows.now))) (rows_in run.entry.rows.now) run.entry.first words.old result words.new }
 {
-    let mut i = from;
-    let mut at = first;
-    while i < rows.len() / 4 {
+    let mut i = run.from;
+    let mut at = run.first;
+    while i < run.rows.len() / 4 {
         let start = part_start(at, words.len());
-        let packet = write_packet(rows, i, &mut words[start..])?;
+        let packet = write_packet(
+            OwnRow {
+                rows: run.rows,
+                at: i,
+            },
+            &mut words[start..],
+        )?;
         at += packet.count;
         i = packet.next;
     }
@@ -117,7 +118,14 @@ pub(crate) fn write_event(
     write_stamp(rows, order, &mut words[at..])?;
     let at = part_start(9, words.len());
     write_number(rows, &mut words[at..])?;
-    let packets = write_packets(rows, 4, words, 14)?;
+    let packets = write_packets(
+        Run {
+            rows,
+            from: 4,
+            first: 14,
+        },
+        words,
+    )?;
     close(words, 0, Tag::Event, packets.count);
     Ok(packets.count)
 }

@@ -8,4 +8,4 @@ use Rattle.list_events.proofs.list.Goals as goal
 pub returns : goal.returns
 returns c =
     let r = c.list.result in
-    subst (λ (o : StampOrder). (r.order ≡ o) × ListedByTurns o r.whole (take r.put c.list.new.text)) c.requires c.list.ensures
+    subst (λ (o : StampOrder). (r.order ≡ o) × ListedByTurns o r.whole (take r.put c.list.new.buffers.text)) c.requires c.list.ensures

@@ -14,8 +14,8 @@ returns c =
     let connector = c.put_field-pad_at.ensures in
     let pad = c.put_field-end.ensures in
     let end = c.put_text.ensures in
-    let p = placed (channel.end, channel.buffer) (rw hex_length (omega (arith, c.requires, l))) in
-    let q = placed_put p _ (connector.end, connector.buffer) (simp (length-append, field_length, hex_length) (omega (arith, c.requires, l))) in
-    let r = placed_put q _ (pad.end, pad.buffer) (simp (length-append, field_length, hex_length) (omega (arith, c.requires, l))) in
+    let p = placed (rw c.from.ensures at channel.end, rw c.from.ensures at channel.buffer) (rw hex_length (omega (arith, c.requires, l))) in
+    let q = placed_put p _ (rw c.from-2.ensures at connector.end, rw c.from-2.ensures at connector.buffer) (simp (length-append, field_length, hex_length) (omega (arith, c.requires, l))) in
+    let r = placed_put q _ (rw c.from-3.ensures at pad.end, rw c.from-3.ensures at pad.buffer) (simp (length-append, field_length, hex_length) (omega (arith, c.requires, l))) in
     rw c.pad.ensures at
     (placed_put r _ (end.end, end.buffer) (simp (length-append, field_length, hex_length) (omega (arith, c.requires, l))))

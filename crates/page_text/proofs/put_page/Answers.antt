@@ -1,14 +1,16 @@
 -- `put_page` meets its contract. Assumes nothing.
 use mathlib.Core.Path.{◌≡◌, ◌∙◌, sym}
 use native.Mathlib.Omega.{arith}
-use Rattle.hex_line.proofs.TextLaws.{placed_then, placed_all}
+use lib.ListN.{length}
+use Rattle.hex_line.proofs.TextLaws.{placed_then, placed_all, placed_size}
 use Rattle.std.specs.Prelude.{sum}
 use Rattle.page_text.specs.Text.{largest, text_of_page}
-use Rattle.page_text.proofs.PageLaws.{placed_size, head_length, pictures_length, counts_length, last_length_lem, page_length}
+use Rattle.page_text.proofs.PageLaws.{head_length, pictures_length, counts_length, last_length_lem, page_length}
+use Rattle.std.proofs.Common.{rules}
 use Rattle.page_text.proofs.put_page.Goals as goal
 
 pub put_head-pictures_at-requires : goal.put_head-pictures_at-requires
-put_head-pictures_at-requires c = rw head_length (omega (arith, c.told-text))
+put_head-pictures_at-requires c = rw head_length (omega arith)
 
 pub put_pictures-counts_at-requires : goal.put_pictures-counts_at-requires
 put_pictures-counts_at-requires c =
@@ -43,4 +45,5 @@ returns c =
     let pictured = placed_then headed (rw c.largest-most.ensures at c.put_pictures-counts_at.ensures) in
     let e = c.args.ending in
     let l = page_length c.args.events c.args.counts.now e.cut e.added e.refused e.other in
-    placed_all (c.told-text ∙ sym l) (placed_then (placed_then pictured c.put_counts-last_at.ensures) c.put_last.ensures)
+    let n : length c.args.text.now ≡ 5956 = search rules in
+    placed_all (n ∙ sym l) (placed_then (placed_then pictured c.put_counts-last_at.ensures) c.put_last.ensures)

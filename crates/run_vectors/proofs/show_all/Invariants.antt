@@ -4,10 +4,8 @@ use mathlib.Core.Path.{◌≡◌}
 use lib.ListN.{length}
 use Rattle.run_vectors.proofs.show_all.Given as goal
 
-abbrev pub invariant-loop-turn : goal.invariant-loop-turn
-invariant-loop-turn l =
-    (length l.elements ≡ length l.initial.elements) × (length l.text ≡ length l.initial.text)
-    × (l.turn.place ≤ length l.input) × (l.turn.at ≤ length l.initial.text)
+abbrev pub invariant-loop-place : goal.invariant-loop-place
+invariant-loop-place l = (length l.elements ≡ length l.initial.elements) × (l.place ≤ length l.input)
 
-abbrev pub decreases-loop-turn : goal.decreases-loop-turn
-decreases-loop-turn l = length l.input - l.turn.place
+abbrev pub decreases-loop-place : goal.decreases-loop-place
+decreases-loop-place l = length l.input - l.place

@@ -40,6 +40,10 @@ returns-in_err-check_values c =
 pub word-requires : goal.word-requires
 word-requires c = (heads c.args.words.now c.args.from.next c.args.seen c.in_ok-opened.ensures c.in-Some.is).inside
 
+pub check_footer-requires : goal.check_footer-requires
+check_footer-requires c =
+    geo_small (heads c.args.words.now c.args.from.next c.args.seen c.in_ok-opened.ensures c.in-Some.is) (omega (arith, c.type_inv.words c.args.from.next))
+
 pub returns-in_err-check_footer : goal.returns-in_err-check_footer
 returns-in_err-check_footer c =
     let p = err_from_is_err_and c.from_residual-in_err-check_footer.result c.from_residual-in_err-check_footer.ensures.1 in

@@ -1,19 +1,11 @@
 -- `lines::list_lines` meets its contract. The invariant: all that was to be written is still to be written. Assumes nothing.
 use Prim.Native.Nat.{◌-◌}
-use mathlib.Core.Path.{◌≡◌}
 use lib.ListN.{length}
-use Rattle.list_input.specs.Run.{Inside, Rooms, Kept}
+use Rattle.list_input.specs.Run.{Inside, Kept}
 use Rattle.list_input.proofs.lines.list_lines.Given as goal
 
 abbrev pub invariant-loop-count : goal.invariant-loop-count
-invariant-loop-count l =
-    (length l.words ≡ length l.initial.words)
-    × (length l.longwords ≡ length l.initial.longwords)
-    × (length l.rows ≡ length l.initial.rows)
-    × (length l.text ≡ length l.initial.text)
-    × Rooms l.initial.words l.initial.longwords l.initial.rows
-    × Inside (length l.input) (length l.initial.text) l.listed
-    × Kept l.order l.ended l.input l.initial.listed l.initial.text l.listed l.text
+invariant-loop-count l = Inside (length l.input) (length l.initial.text) l.listed × Kept l.order l.ended l.input l.initial.listed l.initial.text l.listed l.text
 
 abbrev pub decreases-loop-count : goal.decreases-loop-count
 decreases-loop-count l = l.listed.end - l.listed.from

@@ -1,9 +1,8 @@
 -- `lines::put_event` meets its contract. Assumes nothing.
 use Prim.Native.Nat.{ℕ, ◌+◌, ◌*◌, ◌≤◌}
 use mathlib.Core.List.{List}
-use native.Mathlib.Omega.{arith}
 use lib.ListN.{length}
-use Rattle.event.specs.declared.Answer.{Answer}
+use Rattle.event.specs.Refusal.{Answer}
 use Rattle.event.specs.Rows.{room}
 use Rattle.event.specs.Writing.{rows_in}
 use Rattle.event.proofs.RowsIn.{rows_count}
@@ -16,13 +15,6 @@ use Rattle.list_input.proofs.lines.put_event.Goals as goal
 fits : (number : ℕ) (answer : Answer) (rows : List ℕ) (at m : ℕ) → at + (answer_length answer + row_length * room (length rows)) ≤ m
     → at + length (event_text number answer (rows_in rows)) ≤ m
 fits number answer rows at m h = rw (event_length number answer (rows_in rows), rows_count) h
-
-pub overflow_add-result : goal.overflow_add-result
-overflow_add-result c =
-    let a = c.args in
-    let f = fits (a.run.accepted + a.run.refused + 1) a.answer a.rows.now a.run.at _ c.requires.rows_in_bounds in
-    let t = put_behind a.text.now _ a.run.at f c.put_event.ensures.count c.put_event.ensures.buffer in
-    omega (arith, f, t.ends)
 
 pub returns : goal.returns
 returns c =

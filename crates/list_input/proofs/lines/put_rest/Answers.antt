@@ -2,7 +2,7 @@
 use Prim.Native.Nat.{ℕ, ◌+◌, ◌≤◌}
 use native.Mathlib.Omega.{arith}
 use mathlib.Core.Path.{◌≡◌, sym, ◌∙◌}
-use mathlib.Core.Bool.{Bool, false≢true}
+use mathlib.Core.Bool.{Bool}
 use mathlib.Core.List.{List}
 use lib.ListN.{take, drop}
 use Rattle.event.specs.declared.StampOrder.{StampOrder}
@@ -28,16 +28,12 @@ long_end : (o : StampOrder) (input : List ℕ) (count : ℕ) (run : Run) (text :
 long_end o input count run text run' text' l =
     omega (arith, l.placed.ends, most_text_lem o (take count (drop run.from input)) (run.accepted + run.refused + 1))
 
-pub list_line-last-requires : goal.list_line-last-requires
-list_line-last-requires c =
+pub list_line-last-requires-clause-line_inside : goal.list_line-last-requires-clause-line_inside
+list_line-last-requires-clause-line_inside c =
     let a = c.args in
     let k = next_known a.run a.input.now a.ended c.requires.next_value.0 c.in-Long.is in
     let w = first_inside a.order a.ended a.input.now a.text.now a.run c.requires.inside k.0 k.1 in
-    record {
-      inside = c.requires.inside;
-      line_inside = record { some = w.0; within = w.1; lines = k.2; text = omega (arith, c.requires.last_length_in_bounds) };
-      rooms = c.requires.rooms;
-    }
+    record { some = w.0; within = w.1; lines = k.2; text = omega (arith, c.requires.last_length_in_bounds) }
 
 pub put_last-requires : goal.put_last-requires
 put_last-requires c =
@@ -58,27 +54,16 @@ returns-in-Long c =
           c.put_last.ensures.placed;
     }
 
-pub returns-in-Cut : goal.returns-in-Cut
-returns-in-Cut c =
-    let a = c.args in record {
-      upper_bound = omega (arith, c.put_last-in-Cut.ensures.value, c.requires.last_length_in_bounds);
-      rest_put = rest_cut a.order a.ended a.input.now a.text.now a.run c.requires.inside
-          (next_known a.run a.input.now a.ended c.requires.next_value.0 c.in-Cut.is) (omega (arith, c.requires.last_length_in_bounds))
-          c.put_last-in-Cut.ensures.placed;
-    }
+pub returns-in-Cut-clause-rest_put : goal.returns-in-Cut-clause-rest_put
+returns-in-Cut-clause-rest_put c =
+    let a = c.args in
+    rest_cut a.order a.ended a.input.now a.text.now a.run c.requires.inside
+    (next_known a.run a.input.now a.ended c.requires.next_value.0 c.in-Cut.is) (omega (arith, c.requires.last_length_in_bounds))
+    c.put_last-in-Cut.ensures.placed
 
-pub returns-in-End : goal.returns-in-End
-returns-in-End c =
-    let a = c.args in record {
-      upper_bound = omega (arith, c.put_last-in-End.ensures.value, c.requires.last_length_in_bounds);
-      rest_put = rest_ended a.order a.ended a.input.now a.text.now a.run c.requires.inside
-          (next_known a.run a.input.now a.ended c.requires.next_value.0 c.in-End.is) (omega (arith, c.requires.last_length_in_bounds))
-          c.put_last-in-End.ensures.placed;
-    }
-
--- a line, or more of the input, does not come next where the listing ends
-pub returns-in-Line : goal.returns-in-Line
-returns-in-Line c = absurd (false≢true (rw c.in-Line.is at c.requires.next_value.1))
-
-pub returns-in-More : goal.returns-in-More
-returns-in-More c = absurd (false≢true (rw c.in-More.is at c.requires.next_value.1))
+pub returns-in-End-clause-rest_put : goal.returns-in-End-clause-rest_put
+returns-in-End-clause-rest_put c =
+    let a = c.args in
+    rest_ended a.order a.ended a.input.now a.text.now a.run c.requires.inside
+    (next_known a.run a.input.now a.ended c.requires.next_value.0 c.in-End.is) (omega (arith, c.requires.last_length_in_bounds))
+    c.put_last-in-End.ensures.placed

@@ -1,39 +1,16 @@
 -- `streams::go_on` meets its contract. Assumes nothing.
 use Prim.Native.Nat.{◌-◌}
 use native.Mathlib.Omega.{arith}
-use mathlib.Core.Path.{refl, sym, ◌∙◌}
+use mathlib.Core.Path.{sym, ◌∙◌, ap}
 use mathlib.Core.Bool.{false≢true}
-use mathlib.Core.List.{[], append-nil}
 use lib.ListN.{drop}
-use Rattle.list_input.specs.Run.{rest_of}
+use Rattle.list_input.specs.Run.{rest_of, turn_of, is_over}
 use Rattle.list_input.proofs.Turns.{piece_behind, piece_some, piece_none}
 use Rattle.list_input.proofs.streams.go_on.Goals as goal
 
-pub returns-in_default : goal.returns-in_default
-returns-in_default c = record {
-  fed = record {
-    piece = [];
-    found = λ _. refl;
-    stays = λ _. (refl, refl);
-    last = λ e. e;
-    some = λ e _ _. absurd (c.in_default.not-More e);
-    rest = sym (append-nil _);
-    begins = c.requires.from_le_end.0;
-    ends = c.requires.from_le_end.1;
-    at = refl;
-    accepted = refl;
-    refused = refl;
-    over = refl;
-  };
-  failed_value = λ _. refl;
-}
-
-pub refill-requires : goal.refill-requires
-refill-requires c = (c.requires.from_le_end.0, c.requires.from_le_end.1, (c.requires.ended_value c.in-More.is).2)
-
-pub returns : goal.returns
-returns c =
-    let r = c.refill.result.run in
+pub returns-in-More : goal.returns-in-More
+returns-in-More c =
+    let r = (turn_of c.refill.result).run in
     let input = c.refill.new.input in
     let e = c.refill.ensures in
     let m = c.requires.ended_value c.in-More.is in
@@ -51,7 +28,6 @@ returns c =
         at = e.at_value.0;
         accepted = e.at_value.1;
         refused = e.at_value.2;
-        over = e.at_value.3 ∙ sym m.1;
+        over = e.at_value.3 ∙ sym (ap is_over c.in-More.is);
       };
-      failed_value = λ n. absurd (n c.in-More.is);
     }

@@ -1,6 +1,6 @@
 -- `rows::line_rows` meets its contract. Assumes nothing.
 use mathlib.Core.Path.{sym, ◌∙◌}
-use Rattle.listing.proofs.LineRows.{not_words, words_read}
+use Rattle.listing.proofs.LineRows.{words_read}
 use Rattle.listing.proofs.rows.line_rows.Goals as goal
 
 pub returns : goal.returns

@@ -1,6 +1,5 @@
 -- `count_event` meets its contract. Assumes nothing.
-use mathlib.Core.Path.{sym, ap, ◌∙◌}
-use native.Mathlib.Omega.{arith}
+use mathlib.Core.Path.{ap, ◌∙◌}
 use mathlib.Core.List.{List}
 use Rattle.event.specs.declared.Row.{Row}
 use Rattle.page.specs.Counting.{with_hits}

@@ -4,9 +4,9 @@ use Prim.Native.Nat.{◌+◌, ◌≤◌}
 use mathlib.Core.List.{◌++◌}
 use lib.ListN.{length, length-append}
 use Rattle.hex_line.specs.Text.{text, field, Placed}
-use Rattle.hex_line.proofs.TextLaws.{field_length, placed, placed_put, placed_then}
+use Rattle.hex_line.proofs.TextLaws.{field_length, placed, placed_put, placed_then, placed_size}
 use Rattle.page_text.specs.Text.{count_text}
-use Rattle.page_text.proofs.PageLaws.{placed_size, eight_length, count_length}
+use Rattle.page_text.proofs.PageLaws.{eight_length, count_length}
 use Rattle.page_text.proofs.lines.put_count.Goals as goal
 
 pub put_eight-end-requires : goal.put_eight-end-requires

@@ -2,9 +2,9 @@
 use Prim.Native.Nat.{◌*◌, ◌/◌, ◌%◌}
 use mathlib.Core.Path.{◌≡◌}
 use native.Mathlib.Omega.{arith}
-use Rattle.hex_line.proofs.TextLaws.{placed_first, placed_next}
+use Rattle.hex_line.proofs.TextLaws.{placed_first, placed_next, room_next}
 use Rattle.page_text.specs.Text.{counts_text}
-use Rattle.page_text.proofs.PageLaws.{room_next, count_length}
+use Rattle.page_text.proofs.PageLaws.{count_length}
 use Rattle.page_text.proofs.lines.put_counts.Invariants.{line_of}
 use Rattle.page_text.proofs.lines.put_counts.Goals as goal
 

@@ -2,9 +2,8 @@
 use mathlib.Core.Path.{◌≡◌, ◌∙◌}
 use native.Mathlib.Omega.{arith}
 use Rattle.hex_line.specs.Text.{text}
-use Rattle.hex_line.proofs.TextLaws.{field_length, placed, placed_first, placed_next}
+use Rattle.hex_line.proofs.TextLaws.{field_length, placed, placed_first, placed_next, room_next}
 use Rattle.page_text.specs.Text.{eight_text}
-use Rattle.page_text.proofs.PageLaws.{room_next}
 use Rattle.page_text.proofs.lines.put_eight.Invariants.{behind}
 use Rattle.page_text.proofs.lines.put_eight.Goals as goal
 

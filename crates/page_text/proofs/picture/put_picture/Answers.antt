@@ -4,9 +4,9 @@ use mathlib.Core.List.{◌++◌}
 use native.Mathlib.Omega.{arith}
 use lib.ListN.{length, length-append}
 use Rattle.hex_line.specs.Text.{text, field, Placed}
-use Rattle.hex_line.proofs.TextLaws.{field_length, placed, placed_put, placed_then}
+use Rattle.hex_line.proofs.TextLaws.{field_length, placed, placed_put, placed_then, placed_size}
 use Rattle.page_text.specs.Text.{picture_text}
-use Rattle.page_text.proofs.PageLaws.{placed_size, rows_length_lem, picture_length}
+use Rattle.page_text.proofs.PageLaws.{rows_length_lem, picture_length}
 use Rattle.page_text.proofs.picture.put_picture.Goals as goal
 
 pub put_rows-end-requires : goal.put_rows-end-requires

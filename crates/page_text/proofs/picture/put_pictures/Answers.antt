@@ -1,9 +1,9 @@
 -- `picture::put_pictures` meets its contract. Assumes nothing.
 use mathlib.Core.Path.{◌≡◌}
 use native.Mathlib.Omega.{arith}
-use Rattle.hex_line.proofs.TextLaws.{placed_first, placed_next}
+use Rattle.hex_line.proofs.TextLaws.{placed_first, placed_next, room_next}
 use Rattle.page_text.specs.Text.{picture_text, pictures_text}
-use Rattle.page_text.proofs.PageLaws.{room_next, picture_length}
+use Rattle.page_text.proofs.PageLaws.{picture_length}
 use Rattle.page_text.proofs.picture.put_pictures.Goals as goal
 
 pub loop-number-init : goal.loop-number-init

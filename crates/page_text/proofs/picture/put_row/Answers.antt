@@ -4,9 +4,9 @@ use mathlib.Core.List.{◌++◌}
 use native.Mathlib.Omega.{arith}
 use lib.ListN.{length, length-append}
 use Rattle.hex_line.specs.Text.{text, hex_of, Placed}
-use Rattle.hex_line.proofs.TextLaws.{hex_length, placed, placed_put, placed_then}
+use Rattle.hex_line.proofs.TextLaws.{hex_length, placed, placed_put, placed_then, placed_size}
 use Rattle.page_text.specs.Text.{row_text}
-use Rattle.page_text.proofs.PageLaws.{placed_size, marks_length, row_length_lem}
+use Rattle.page_text.proofs.PageLaws.{marks_length, row_length_lem}
 use Rattle.page_text.proofs.picture.put_row.Goals as goal
 
 pub put_marks-end-requires : goal.put_marks-end-requires

@@ -3,9 +3,9 @@ use Prim.Native.Nat.{ℕ, ◌-◌}
 use mathlib.Core.Path.{◌≡◌}
 use native.Mathlib.Omega.{arith}
 use lib.ListN.{length}
-use Rattle.hex_line.proofs.TextLaws.{placed_first, placed_next}
+use Rattle.hex_line.proofs.TextLaws.{placed_first, placed_next, room_next}
 use Rattle.page_text.specs.Text.{least_of, rows_text}
-use Rattle.page_text.proofs.PageLaws.{room_next, row_length_lem}
+use Rattle.page_text.proofs.PageLaws.{row_length_lem}
 use Rattle.page_text.proofs.picture.put_rows.Invariants.{row_of}
 use Rattle.page_text.proofs.picture.put_rows.Goals as goal
 

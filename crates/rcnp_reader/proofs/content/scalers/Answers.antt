@@ -3,7 +3,7 @@ use Prim.Native.Nat.{◌+◌, ◌*◌, ◌-◌, ◌/◌, ◌≤◌, ◌<◌}
 use native.Mathlib.Omega.{arith}
 use mathlib.Core.Path.{◌≡◌, refl}
 use lib.ListN.{length, get_or}
-use Rattle.rcnp_reader.proofs.ScalerWords.{scalers_begin, scalers_same, scalers_read, scaler_refused, scaler_taken}
+use Rattle.rcnp_reader.proofs.ScalerWords.{scalers_begin, scalers_read, scaler_refused, scaler_taken}
 use Rattle.rcnp_reader.proofs.content.scalers.Goals as goal
 
 pub loop-index-init : goal.loop-index-init

@@ -10,24 +10,8 @@ use Rattle.rcnp_writer.proofs.content.chamber_right.Goals as goal
 later : (k most : ℕ) → most ≡ last_kind true → most ≡ last_kind (ltb 0 (k + 1))
 later k most e = rw (lt-ltb 0 (k + 1) (omega arith)) e
 
-pub overflow_sub-rows : goal.overflow_sub-rows
-overflow_sub-rows c = omega (arith, c.requires, rows_count c.args.rows.now)
-
 pub returns-then-rows-first : goal.returns-then-rows-first
 returns-then-rows-first c e = impossible cc
-
-pub loop-k-init : goal.loop-k-init
-loop-k-init c = (c.last_kind-most.ensures, λ e j h. absurd (omega arith))
-
-pub overflow_add-first : goal.overflow_add-first
-overflow_add-first c =
-    let inside : c.args.first + c.args.n ≤ length (rows_in c.args.rows.now) = omega (arith, c.requires, c.if-rows-first.false, rows_count c.args.rows.now) in
-    omega (arith, inside, c.loop-k-test.true, rows_count c.args.rows.now)
-
-pub row_there-requires : goal.row_there-requires
-row_there-requires c =
-    let inside : c.args.first + c.args.n ≤ length (rows_in c.args.rows.now) = omega (arith, c.requires, c.if-rows-first.false, rows_count c.args.rows.now) in
-    omega (arith, inside, c.loop-k-test.true)
 
 pub loop-k-preserved : goal.loop-k-preserved
 loop-k-preserved c =

@@ -1,23 +1,8 @@
 -- `content::judge_chamber` meets its contract. Assumes nothing.
-use Rattle.std.proofs.Common.{arith}
 use Rattle.event.specs.Writing.{rows_in}
-use Rattle.event.proofs.RowsIn.{rows_count}
 use Rattle.rcnp_writer.specs.Faults.{ChamberRight}
 use Rattle.rcnp_writer.proofs.Contents.{chamber_right}
 use Rattle.rcnp_writer.proofs.content.judge_chamber.Goals as goal
-
-pub chamber_right-requires : goal.chamber_right-requires
-chamber_right-requires c = c.requires.1
-
-pub overflow_add-result : goal.overflow_add-result
-overflow_add-result c =
-    let right : ChamberRight (rows_in c.args.rows.now) c.args.first c.args.n = c.chamber_right.ensures c.if-chamber_right.true in
-    omega (arith, right.inside, rows_count c.args.rows.now)
-
-pub overflow_add-result-then-chamber_right : goal.overflow_add-result-then-chamber_right
-overflow_add-result-then-chamber_right c =
-    let right : ChamberRight (rows_in c.args.rows.now) c.args.first c.args.n = c.chamber_right.ensures c.if-chamber_right.true in
-    omega (arith, right.inside, rows_count c.args.rows.now)
 
 pub returns-then-chamber_right : goal.returns-then-chamber_right
 returns-then-chamber_right c =

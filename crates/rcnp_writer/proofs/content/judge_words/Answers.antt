@@ -3,18 +3,11 @@ use Rattle.std.proofs.Common.{◌≡◌, arith}
 use Rattle.std.proofs.lemmas.Result.{err_from_is_err_and}
 use Rattle.event.proofs.Answers.{passed_test, failed_test}
 use Rattle.event.proofs.CountedRows.{counted_begin}
-use Rattle.event.proofs.RowsIn.{rows_count}
 use Rattle.rcnp_writer.proofs.Contents.{words_done, word_refused, word_next}
 use Rattle.rcnp_writer.proofs.content.judge_words.Goals as goal
 
 pub loop-k-init : goal.loop-k-init
 loop-k-init c = counted_begin tt c.requires.1 (omega arith)
-
-pub overflow_add-first : goal.overflow_add-first
-overflow_add-first c = omega (arith, c.loop-k.invariant.reached.inside, rows_count c.args.rows.now)
-
-pub overflow_add-first-in-loop-k : goal.overflow_add-first-in-loop-k
-overflow_add-first-in-loop-k c = omega (arith, c.loop-k.invariant.reached.inside, rows_count c.args.rows.now)
 
 pub returns-in_err-check_datum : goal.returns-in_err-check_datum
 returns-in_err-check_datum c =
@@ -23,9 +16,6 @@ returns-in_err-check_datum c =
 
 pub loop-k-preserved : goal.loop-k-preserved
 loop-k-preserved c = word_next c.loop-k.invariant c.loop-k-test.true c.row_at.ensures (passed_test _ _ c.in_ok-check_datum.ensures) (omega arith)
-
-pub overflow_add-result : goal.overflow_add-result
-overflow_add-result c = omega (arith, c.loop-k.invariant.reached.inside, rows_count c.args.rows.now)
 
 pub returns : goal.returns
 returns c = let all : c.loop-k.k ≡ c.args.n = omega arith in rw all at (words_done c.loop-k.invariant (omega arith))

@@ -7,12 +7,12 @@ use Rattle.rcnp_writer.proofs.fault.check_header.Goals as goal
 pub returns-then-row : goal.returns-then-row
 returns-then-row c = c.refuse.ensures ∙ ap (λ n. verdict n c.args.place) ((header_judged _).other c.if-row.true)
 
-pub returns-then-row-has_size : goal.returns-then-row-has_size
-returns-then-row-has_size c =
-    let tests = header_tested c.args.row c.has_size.ensures in
-    ap (λ n. verdict n c.args.place) (tests.kept c.if-row.false c.if-row-has_size.true)
+pub returns-then-row-allowed : goal.returns-then-row-allowed
+returns-then-row-allowed c =
+    let tests = header_tested c.args.row c.has_form.ensures c.allows_size.ensures in
+    ap (λ n. verdict n c.args.place) (tests.kept c.if-row.false c.if-row-allowed.true)
 
 pub returns : goal.returns
 returns c =
-    let tests = header_tested c.args.row c.has_size.ensures in
-    c.refuse-2.ensures ∙ ap (λ n. verdict n c.args.place) (tests.broken c.if-row.false c.if-row-has_size.false)
+    let tests = header_tested c.args.row c.has_form.ensures c.allows_size.ensures in
+    c.refuse-2.ensures ∙ ap (λ n. verdict n c.args.place) (tests.broken c.if-row.false c.if-row-allowed.false)

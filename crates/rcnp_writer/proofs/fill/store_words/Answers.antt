@@ -1,60 +1,19 @@
 -- `fill::store_words` meets its contract. Assumes nothing.
-use Rattle.std.proofs.Common.{◌≡◌, ◌+◌, ◌/◌, ◌<◌, ◌≤◌, length, arith}
-use Rattle.event.specs.Writing.{rows_in, of_kind}
-use Rattle.event.proofs.RowsIn.{rows_count}
-use Rattle.rcnp_writer.proofs.Filled.{first_none, word_alone_lem, filled_one, filled_run, same_length}
+use Rattle.std.proofs.Common.{◌+◌, ◌<◌, [], ◌∷◌, length, sym, ap, ◌∙◌, arith}
+use Rattle.event.specs.Writing.{rows_in}
+use Rattle.rcnp_writer.specs.Parts.{such}
+use Rattle.rcnp_writer.specs.RowWords.{single_word}
+use Rattle.rcnp_writer.proofs.Filled.{filled_one, filled_run, such_alone}
 use Rattle.rcnp_writer.proofs.fill.store_words.Goals as goal
 
-pub loop-k-init : goal.loop-k-init
-loop-k-init c = first_none (omega (arith, c.requires.0.inside))
-
-pub overflow_add-first : goal.overflow_add-first
-overflow_add-first c =
-    let size : length c.loop-k.words ≡ length c.args.words.now = same_length c.loop-k.invariant in
-    let below : (c.loop-k.k < c.args.n) × (c.args.at + c.loop-k.k < length c.loop-k.words) = let f = c.fitting-most.ensures in
-    (omega (arith, f, c.loop-k-test.true), omega (arith, f, c.loop-k-test.true, size)) in
-    let inside : c.args.first + c.args.n ≤ length c.args.rows.now / 4 = omega (arith, c.requires.0.inside, rows_count c.args.rows.now) in
-    omega (arith, below, inside)
-
-pub row_there-requires : goal.row_there-requires
-row_there-requires c =
-    let size : length c.loop-k.words ≡ length c.args.words.now = same_length c.loop-k.invariant in
-    let below : (c.loop-k.k < c.args.n) × (c.args.at + c.loop-k.k < length c.loop-k.words) = let f = c.fitting-most.ensures in
-    (omega (arith, f, c.loop-k-test.true), omega (arith, f, c.loop-k-test.true, size)) in
-    let inside : c.args.first + c.args.n ≤ length c.args.rows.now / 4 = omega (arith, c.requires.0.inside, rows_count c.args.rows.now) in
-    let there : c.args.first + c.loop-k.k < length (rows_in c.args.rows.now) = omega (arith, below, inside, rows_count c.args.rows.now) in
-    there
-
-pub overflow_add-at : goal.overflow_add-at
-overflow_add-at c =
-    let size : length c.loop-k.words ≡ length c.args.words.now = same_length c.loop-k.invariant in
-    let below : (c.loop-k.k < c.args.n) × (c.args.at + c.loop-k.k < length c.loop-k.words) = let f = c.fitting-most.ensures in
-    (omega (arith, f, c.loop-k-test.true), omega (arith, f, c.loop-k-test.true, size)) in
-    omega (arith, below)
-
-pub put_word-requires : goal.put_word-requires
-put_word-requires c =
-    let size : length c.loop-k.words ≡ length c.args.words.now = same_length c.loop-k.invariant in
-    let below : (c.loop-k.k < c.args.n) × (c.args.at + c.loop-k.k < length c.loop-k.words) = let f = c.fitting-most.ensures in
-    (omega (arith, f, c.loop-k-test.true), omega (arith, f, c.loop-k-test.true, size)) in
-    below.1
-
 pub loop-k-preserved : goal.loop-k-preserved
-loop-k-preserved c =
-    let size : length c.loop-k.words ≡ length c.args.words.now = same_length c.loop-k.invariant in
-    let below : (c.loop-k.k < c.args.n) × (c.args.at + c.loop-k.k < length c.loop-k.words) = let f = c.fitting-most.ensures in
-    (omega (arith, f, c.loop-k-test.true), omega (arith, f, c.loop-k-test.true, size)) in
-    let inside : c.args.first + c.args.n ≤ length c.args.rows.now / 4 = omega (arith, c.requires.0.inside, rows_count c.args.rows.now) in
-    let there : c.args.first + c.loop-k.k < length (rows_in c.args.rows.now) = omega (arith, below, inside, rows_count c.args.rows.now) in
-    let r = c.row_there.result in
-    let such = c.requires.0.each c.loop-k.k below.0 in
+loop-k-preserved g c =
+    let k = c.loop-k.k in
+    let below : k < c.args.n = omega (arith, c.fitting-most.ensures, c.loop-k-test.true) in
+    let there : c.args.first + k < length (rows_in c.args.rows.now) = omega (arith, below, c.requires.0.inside) in
     let e = c.row_there.ensures in
-    filled_one c.loop-k.k c.loop-k.invariant there e (word_alone_lem r (rw (← e) at such)) c.put_word.ensures
-
-pub shape_of-words : goal.shape_of-words
-shape_of-words c =
-    let size : length c.loop-k.words ≡ length c.args.words.now = same_length c.loop-k.invariant in
-    size
+    let t = rw (← e) at (c.requires.0.each k below) in
+    filled_one k c.loop-k.invariant there e (such_alone _ c.row_there.result t ∙ ap (◌∷ []) (sym c.single_word.ensures)) c.put_word.ensures
 
 pub returns : goal.returns
-returns c = filled_run (of_kind 33) (λ r. r.datum) word_alone_lem c.requires.0 c.fitting-most.ensures (omega arith) (omega arith) c.loop-k.invariant
+returns g c = filled_run (such _) (single_word _) (such_alone _) c.requires.0 c.fitting-most.ensures (omega arith) (omega arith) c.loop-k.invariant

@@ -1,47 +1,11 @@
 -- `fill::write_regions` meets its contract. Assumes nothing.
-use Rattle.std.proofs.Common.{◌<◌, ◌≤◌, length, refl, arith}
-use native.Mathlib.Nat.{min-le_right}
-use Rattle.event.specs.Writing.{rows_in}
+use Rattle.std.proofs.Common.{refl, arith}
 use Rattle.event.proofs.RowsIn.{rows_count}
-use Rattle.rcnp_writer.proofs.Filled.{filled_none, filled_then, filled_part, all_filled, same_length}
+use Rattle.rcnp_writer.proofs.Filled.{filled_then, filled_part, all_filled}
 use Rattle.rcnp_writer.proofs.fill.write_regions.Goals as goal
-
-pub loop-i-init : goal.loop-i-init
-loop-i-init c = filled_none (omega arith)
-
-pub offset_bounds-words-start : goal.offset_bounds-words-start
-offset_bounds-words-start c =
-    let fits : c.part_start-start.result ≤ length c.loop-i.words = let l = c.loop-i in omega (arith, c.part_start-start.ensures, min-le_right l.at (length l.words)) in
-    omega (arith, fits)
-
-pub slice_bounds-write_region-count : goal.slice_bounds-write_region-count
-slice_bounds-write_region-count c =
-    let fits : c.part_start-start.result ≤ length c.loop-i.words = let l = c.loop-i in omega (arith, c.part_start-start.ensures, min-le_right l.at (length l.words)) in
-    omega (arith, fits)
-
-pub slice_bounds-write_region-start : goal.slice_bounds-write_region-start
-slice_bounds-write_region-start c =
-    let fits : c.part_start-start.result ≤ length c.loop-i.words = let l = c.loop-i in omega (arith, c.part_start-start.ensures, min-le_right l.at (length l.words)) in
-    omega (arith, fits)
-
-pub write_region-written-requires : goal.write_region-written-requires
-write_region-written-requires c =
-    let below : c.loop-i.i < length (rows_in c.args.rows.now) = omega (arith, c.loop-i-test.true, rows_count c.args.rows.now) in
-    (below, c.requires)
-
-pub overflow_add-at : goal.overflow_add-at
-overflow_add-at c =
-    let f = c.write_region-written.ensures in
-    omega (arith, c.loop-i.invariant.few, f.1.few, f.0, f.1.inside, rows_count c.args.rows.now)
-
-pub loop-i-smaller : goal.loop-i-smaller
-loop-i-smaller c = let f = c.write_region-written.ensures in omega (arith, f.0, f.1.inside)
 
 pub loop-i-preserved : goal.loop-i-preserved
 loop-i-preserved c = filled_then c.loop-i.invariant (filled_part c.part_start-start.ensures refl c.write_region-written.ensures.1 refl)
-
-pub shape_of-words : goal.shape_of-words
-shape_of-words c = same_length c.loop-i.invariant
 
 pub returns : goal.returns
 returns c = all_filled c.loop-i.invariant (omega (arith, c.loop-i-test.false, rows_count c.args.rows.now))

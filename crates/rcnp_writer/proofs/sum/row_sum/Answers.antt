@@ -1,52 +1,11 @@
 -- `sum::row_sum` meets its contract. Assumes nothing.
-use Rattle.std.proofs.Common.{◌+◌, ◌/◌, ◌<◌, ◌≤◌, length, refl, arith}
+use Rattle.std.proofs.Common.{◌+◌, ◌<◌, length, refl, arith}
 use Rattle.event.specs.Writing.{rows_in}
 use Rattle.event.proofs.RowsIn.{rows_count}
 use Rattle.rcnp_writer.specs.Parts.{of_run, RunAt}
 use Rattle.rcnp_writer.proofs.RowTotals.{sum_next, summed_up}
 use Rattle.rcnp_writer.proofs.RunsOfRows.{run_at}
 use Rattle.rcnp_writer.proofs.sum.row_sum.Goals as goal
-
-pub loop-i-init : goal.loop-i-init
-loop-i-init c = (omega arith, refl)
-
-pub overflow_add-i : goal.overflow_add-i
-overflow_add-i c =
-    let below : c.loop-i.i < length (rows_in c.args.rows.now) = omega (arith, c.loop-i-test.true, rows_count c.args.rows.now) in
-    let run : RunAt (of_run c.row_at-row.result) (rows_in c.args.rows.now) (c.loop-i.i + 1) c.run_words-n.result = run_at c.row_at-row.result c.requires below c.row_at-row.ensures
-    c.run_words-n.ensures in
-    let ends : c.loop-i.i + 1 + c.run_words-n.result ≤ length c.args.rows.now / 4 = omega (arith, run.inside, rows_count c.args.rows.now) in
-    omega (arith, ends)
-
-pub sum_run-run-requires : goal.sum_run-run-requires
-sum_run-run-requires c =
-    let below : c.loop-i.i < length (rows_in c.args.rows.now) = omega (arith, c.loop-i-test.true, rows_count c.args.rows.now) in
-    let run : RunAt (of_run c.row_at-row.result) (rows_in c.args.rows.now) (c.loop-i.i + 1) c.run_words-n.result = run_at c.row_at-row.result c.requires below c.row_at-row.ensures
-    c.run_words-n.ensures in
-    run
-
-pub overflow_add-i-in-loop-i : goal.overflow_add-i-in-loop-i
-overflow_add-i-in-loop-i c =
-    let below : c.loop-i.i < length (rows_in c.args.rows.now) = omega (arith, c.loop-i-test.true, rows_count c.args.rows.now) in
-    let run : RunAt (of_run c.row_at-row.result) (rows_in c.args.rows.now) (c.loop-i.i + 1) c.run_words-n.result = run_at c.row_at-row.result c.requires below c.row_at-row.ensures
-    c.run_words-n.ensures in
-    let ends : c.loop-i.i + 1 + c.run_words-n.result ≤ length c.args.rows.now / 4 = omega (arith, run.inside, rows_count c.args.rows.now) in
-    omega (arith, ends)
-
-pub overflow_add-i-in-loop-i-2 : goal.overflow_add-i-in-loop-i-2
-overflow_add-i-in-loop-i-2 c =
-    let below : c.loop-i.i < length (rows_in c.args.rows.now) = omega (arith, c.loop-i-test.true, rows_count c.args.rows.now) in
-    let run : RunAt (of_run c.row_at-row.result) (rows_in c.args.rows.now) (c.loop-i.i + 1) c.run_words-n.result = run_at c.row_at-row.result c.requires below c.row_at-row.ensures
-    c.run_words-n.ensures in
-    let ends : c.loop-i.i + 1 + c.run_words-n.result ≤ length c.args.rows.now / 4 = omega (arith, run.inside, rows_count c.args.rows.now) in
-    omega (arith, ends)
-
-pub loop-i-smaller : goal.loop-i-smaller
-loop-i-smaller c =
-    let below : c.loop-i.i < length (rows_in c.args.rows.now) = omega (arith, c.loop-i-test.true, rows_count c.args.rows.now) in
-    let run : RunAt (of_run c.row_at-row.result) (rows_in c.args.rows.now) (c.loop-i.i + 1) c.run_words-n.result = run_at c.row_at-row.result c.requires below c.row_at-row.ensures
-    c.run_words-n.ensures in
-    omega (arith, run.inside, below)
 
 pub loop-i-preserved : goal.loop-i-preserved
 loop-i-preserved c =

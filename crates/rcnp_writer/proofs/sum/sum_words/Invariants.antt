@@ -5,4 +5,4 @@ use Rattle.rcnp_writer.specs.Parts.{Summed}
 use Rattle.rcnp_writer.proofs.sum.sum_words.Given as goal
 
 abbrev pub invariant-loop-k : goal.invariant-loop-k
-invariant-loop-k l = Summed (rows_in l.rows) l.first (l.first + l.k) l.sum
+invariant-loop-k g l = Summed (rows_in l.rows) l.first (l.first + l.k) l.sum

@@ -1,9 +1,8 @@
 -- `whole::count_words` meets its contract. Assumes nothing.
-use Rattle.std.proofs.Common.{arith}
 use Rattle.std.proofs.lemmas.Result.{err_from_is_err_and}
 use Rattle.event.specs.Writing.{rows_in}
 use Rattle.event.proofs.RowsIn.{rows_count}
-use Rattle.rcnp_writer.proofs.Event.{count_refused, count_taken, taken_runs, last_row, sum_wrong, sum_right}
+use Rattle.rcnp_writer.proofs.Event.{count_refused, count_taken, taken_runs, sum_wrong, sum_right}
 use Rattle.rcnp_writer.proofs.whole.count_words.Goals as goal
 
 pub returns-in_err-count : goal.returns-in_err-count
@@ -13,10 +12,6 @@ returns-in_err-count c =
 
 pub row_sum-requires : goal.row_sum-requires
 row_sum-requires c = taken_runs (rows_in c.args.rows.now) (count_taken (rows_in c.args.rows.now) c.in_ok-count.ensures)
-
-pub overflow_sub-rows : goal.overflow_sub-rows
-overflow_sub-rows c =
-    omega (arith, last_row (rows_in c.args.rows.now) (count_taken (rows_in c.args.rows.now) c.in_ok-count.ensures) c.row_sum.ensures, rows_count c.args.rows.now)
 
 pub returns-then-row_sum-ne0 : goal.returns-then-row_sum-ne0
 returns-then-row_sum-ne0 c =

@@ -2,15 +2,8 @@
 use Rattle.std.proofs.Common.{sym, ◌∙◌, arith}
 use Rattle.std.proofs.lemmas.Result.{err_from_is_err_and}
 use Rattle.event.proofs.RowsIn.{rows_count}
-use Rattle.event.proofs.Turns.{begin}
 use Rattle.rcnp_writer.proofs.Regions.{regions_done, region_refused, region_within, region_taken}
 use Rattle.rcnp_writer.proofs.whole.judge_regions.Goals as goal
-
-pub loop-i-init : goal.loop-i-init
-loop-i-init c = begin tt (omega arith) (omega arith)
-
-pub judge_region-requires : goal.judge_region-requires
-judge_region-requires c = c.loop-i.invariant.inside
 
 pub returns-in_err-judged : goal.returns-in_err-judged
 returns-in_err-judged c =

@@ -2,16 +2,13 @@
 use Rattle.std.proofs.Common.{arith}
 use Rattle.std.proofs.lemmas.Result.{err_from_is_err_and}
 use Rattle.event.proofs.RowsIn.{rows_count}
-use Rattle.rcnp_writer.proofs.Event.{regions_refused, sum_there, last_refused, event_few, event_judged}
+use Rattle.rcnp_writer.proofs.Event.{regions_refused, last_refused, event_few, event_judged}
 use Rattle.rcnp_writer.proofs.whole.judge_rows.Goals as goal
 
 pub returns-in_err-regions : goal.returns-in_err-regions
 returns-in_err-regions c =
     let p = err_from_is_err_and c.from_residual.result c.from_residual.ensures.1 in
     rw (p.1, p.2) (regions_refused c.in_err-regions.ensures)
-
-pub judge_check_sum-requires : goal.judge_check_sum-requires
-judge_check_sum-requires c = (sum_there c.in_ok-regions.ensures).0
 
 pub returns-in_err-last : goal.returns-in_err-last
 returns-in_err-last c =

@@ -1,18 +1,11 @@
--- `vectors::repeat_row` meets its contract. The invariant: with the rows that are left stored too, the buffer is as it is to be. Assumes nothing.
-use borrow.Author.Rules.{rules}
-use mathlib.Core.Path.{refl, sym, ◌∙◌}
-use Rattle.run_vectors.proofs.RowLaws.{repeat_none, repeat_next}
+-- `vectors::repeat_row` meets its contract. Assumes nothing.
+use Prim.Native.Nat.{◌+◌, ◌-◌}
+use mathlib.Core.Path.{◌≡◌, ◌∙◌}
+use native.Mathlib.Omega.{arith}
+use Rattle.run_vectors.proofs.RowLaws.{repeat_next}
 use Rattle.run_vectors.proofs.vectors.repeat_row.Goals as goal
 
-pub loop-left-init : goal.loop-left-init
-loop-left-init c = (refl, refl, refl)
-
-pub loop-left-preserved : goal.loop-left-preserved
-loop-left-preserved c = (
-  search rules,
-  search rules,
-  c.loop-left.invariant.2 ∙ repeat_next _ _ _ c.loop-left.left (search rules) ∙ rw c.store_row.ensures,
-)
-
-pub returns : goal.returns
-returns c = sym (c.loop-left.invariant.2 ∙ repeat_none _ _ _ c.loop-left.left (search rules))
+pub loop-next-preserved : goal.loop-next-preserved
+loop-next-preserved c =
+    let left : c.args.at + c.args.times - (c.loop-next.next + 1) ≡ c.args.at + c.args.times - c.loop-next.next - 1 = omega arith in
+    (omega (arith, c.store_row.auto.rows, c.loop-next.invariant.0), c.loop-next.invariant.1 ∙ repeat_next _ _ _ (c.args.at + c.args.times - c.loop-next.next) (omega (arith, c.loop-next-test.true)) ∙ rw (left, c.store_row.ensures))

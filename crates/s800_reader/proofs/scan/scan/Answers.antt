@@ -14,16 +14,16 @@ returns-in_err-begun c =
     let p = err_from_is_err_and c.from_residual.result c.from_residual.ensures.1 in
     rw (p.1, p.2) (head_refused c.in_err-begun.ensures)
 
-pub loop-next-init : goal.loop-next-init
-loop-next-init c = packets_begin c.in_ok-begun.ensures
+pub packets-init : goal.packets-init
+packets-init c = packets_begin c.in_ok-begun.ensures
 
 pub open_packet-requires : goal.open_packet-requires
-open_packet-requires c = (search rules, c.loop-next.invariant.few)
+open_packet-requires c = (search rules, c.packets.invariant.few)
 
 pub returns-in_err-channels : goal.returns-in_err-channels
 returns-in_err-channels c =
     let p = err_from_is_err_and c.from_residual-in_err-channels.result c.from_residual-in_err-channels.ensures.1 in
-    rw (p.1, p.2) (whole_event c.in_ok-begun.ensures (opening_refused c.loop-next.invariant (search rules) c.in_err-channels.ensures))
+    rw (p.1, p.2) (whole_event c.in_ok-begun.ensures (opening_refused c.packets.invariant (search rules) c.in_err-channels.ensures))
 
 pub loop-i-init : goal.loop-i-init
 loop-i-init c =
@@ -31,15 +31,13 @@ loop-i-init c =
     let l = o.opens.1 in
     (begin blocked_none (rw o.opens.0 l.inside) l.few, l.base, o.ends.1)
 
-pub returns-in_err-check_channel : goal.returns-in_err-check_channel
-returns-in_err-check_channel c =
-    let p = err_from_is_err_and c.from_residual-in_err-check_channel.result c.from_residual-in_err-check_channel.ensures.1 in
+pub returns-in-Err : goal.returns-in-Err
+returns-in-Err c =
     let i = c.loop-i.invariant in
     let w = c.word-w.ensures in
-    rw (p.1, p.2)
-    (whole_event c.in_ok-begun.ensures
-    (channels_refused c.loop-next.invariant (search rules) c.in_ok-channels.ensures
-    (word_refused _ i.0 (search rules) i.2 w.0 w.1 _ (failed_test _ _ c.in_err-check_channel.ensures))))
+    whole_event c.in_ok-begun.ensures
+    (channels_refused c.packets.invariant (search rules) c.in_ok-channels.ensures
+    (word_refused _ i.0 (search rules) i.2 w.0 w.1 _ (failed_test _ _ c.in-Err.ensures)))
 
 pub overflow_add-count : goal.overflow_add-count
 overflow_add-count c = omega (arith, c.loop-i.invariant.0.few, c.loop-i.invariant.2)
@@ -49,12 +47,12 @@ loop-i-preserved c =
     let i = c.loop-i.invariant in
     let w = c.word-w.ensures in
     let s = c.store_channel in
-    (word_taken _ i.0 (search rules) i.2 w.0 w.1 (passed_test _ _ c.in_ok-check_channel.ensures) c.channel_of.ensures c.with_channel-blocked.ensures s.ensures s.auto.rows, i.1, i.2)
+    (word_taken _ i.0 (search rules) i.2 w.0 w.1 (passed_test _ _ c.in_default.ensures) c.channel_of.ensures c.with_channel-blocked.ensures s.ensures s.auto.rows, i.1, i.2)
 
-pub loop-next-preserved : goal.loop-next-preserved
-loop-next-preserved c =
+pub packets-preserved : goal.packets-preserved
+packets-preserved c =
     let h = c.loop-i.invariant.0 in
-    over c.loop-next.invariant (search rules) c.in_ok-channels.ensures (finish h (search rules)) (omega (arith, h.few, h.inside)) (h.same ∙ c.open_packet.auto.rows)
+    over c.packets.invariant (search rules) c.in_ok-channels.ensures (finish h (search rules)) (omega (arith, h.few, h.inside)) (h.same ∙ c.open_packet.auto.rows)
 
-pub returns : goal.returns
-returns c = whole_event c.in_ok-begun.ensures (finish c.loop-next.invariant (search rules))
+pub returns-then-words-next : goal.returns-then-words-next
+returns-then-words-next c = whole_event c.in_ok-begun.ensures (finish c.packets.invariant (search rules))

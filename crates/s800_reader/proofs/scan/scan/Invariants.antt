@@ -9,8 +9,8 @@ invariant-loop-i l =
     ChannelRun l.channels.format l.blocked l.words l.channels.end l.channels.at l.channels.count l.initial.rows l.i l.count l.rows
     × (l.channels.format.base < 2 ^ 16) × (l.channels.end ≤ length l.words)
 
-abbrev pub invariant-loop-next : goal.invariant-loop-next
-invariant-loop-next l = Packets l.words l.initial.next l.initial.count l.initial.rows l.next l.count l.rows
+abbrev pub invariant-packets : goal.invariant-packets
+invariant-packets l = Packets l.words l.initial.next l.initial.count l.initial.rows l.next l.count l.rows
 
-abbrev pub decreases-loop-next : goal.decreases-loop-next
-decreases-loop-next l = length l.words - l.next
+abbrev pub decreases-packets : goal.decreases-packets
+decreases-packets l = length l.words - l.next

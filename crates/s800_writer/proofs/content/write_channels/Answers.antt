@@ -14,7 +14,7 @@ pub returns-in_err-check_channel : goal.returns-in_err-check_channel
 returns-in_err-check_channel c =
     let failed = failed_test (datum_fault c.args.format c.loop-format.blocked c.row_at-row.result) c.loop-format.i c.in_err-check_channel.ensures in
     rw (handed_on c.from_residual.result c.from_residual.ensures.1)
-    (channels_stop c.args.format c.loop-format.invariant c.requires.1 (sym c.loop-format-test.true ∙ c.before_kind.ensures) c.row_at-row.ensures c.loop-format.words failed)
+    (channels_stop c.args.format c.loop-format.invariant c.requires (sym c.loop-format-test.true ∙ c.before_kind.ensures) c.row_at-row.ensures c.loop-format.words failed)
 
 pub overflow_sub-channel : goal.overflow_sub-channel
 overflow_sub-channel c =
@@ -29,19 +29,19 @@ channel_word-requires c =
 pub overflow_add-at : goal.overflow_add-at
 overflow_add-at c =
     let passed = passed_test (datum_fault c.args.format c.loop-format.blocked c.row_at-row.result) c.loop-format.i c.in_ok-check_channel.ensures in
-    let inside = channels_inside c.args.format c.loop-format.invariant c.requires.1 (sym c.loop-format-test.true ∙ c.before_kind.ensures) c.row_at-row.ensures passed in
-    omega (arith, c.loop-format.invariant.few, rows_count c.args.rows.now)
+    let inside = channels_inside c.args.format c.loop-format.invariant c.requires (sym c.loop-format-test.true ∙ c.before_kind.ensures) c.row_at-row.ensures passed in
+    omega (arith, c.loop-format.invariant.few, rows_count c.args.run.rows.now)
 
 pub overflow_add-i : goal.overflow_add-i
 overflow_add-i c =
     let passed = passed_test (datum_fault c.args.format c.loop-format.blocked c.row_at-row.result) c.loop-format.i c.in_ok-check_channel.ensures in
-    let inside = channels_inside c.args.format c.loop-format.invariant c.requires.1 (sym c.loop-format-test.true ∙ c.before_kind.ensures) c.row_at-row.ensures passed in
-    omega (arith, rows_count c.args.rows.now)
+    let inside = channels_inside c.args.format c.loop-format.invariant c.requires (sym c.loop-format-test.true ∙ c.before_kind.ensures) c.row_at-row.ensures passed in
+    omega (arith, rows_count c.args.run.rows.now)
 
 pub loop-format-preserved : goal.loop-format-preserved
 loop-format-preserved c =
     let passed = passed_test (datum_fault c.args.format c.loop-format.blocked c.row_at-row.result) c.loop-format.i c.in_ok-check_channel.ensures in
-    channels_step c.args.format c.loop-format.invariant c.requires.1 (sym c.loop-format-test.true ∙ c.before_kind.ensures) c.row_at-row.ensures passed refl c.with_channel-blocked.ensures
+    channels_step c.args.format c.loop-format.invariant c.requires (sym c.loop-format-test.true ∙ c.before_kind.ensures) c.row_at-row.ensures passed refl c.with_channel-blocked.ensures
     c.channel_word.ensures c.store_word.ensures c.store_word.auto.words
 
 pub returns : goal.returns

@@ -20,13 +20,13 @@ pub overflow_add-at : goal.overflow_add-at
 overflow_add-at c =
     let passed = passed_test (limits_fault 11 0 0 65535 c.row_at-row.result) c.loop-row.i c.in_ok-check_limits.ensures in
     let inside = opaques_inside c.loop-row.invariant (sym c.loop-row-test.true ∙ c.before_kind.ensures) c.row_at-row.ensures passed in
-    omega (arith, c.loop-row.invariant.few, rows_count c.args.rows.now)
+    omega (arith, c.loop-row.invariant.few, rows_count c.args.run.rows.now)
 
 pub overflow_add-i : goal.overflow_add-i
 overflow_add-i c =
     let passed = passed_test (limits_fault 11 0 0 65535 c.row_at-row.result) c.loop-row.i c.in_ok-check_limits.ensures in
     let inside = opaques_inside c.loop-row.invariant (sym c.loop-row-test.true ∙ c.before_kind.ensures) c.row_at-row.ensures passed in
-    omega (arith, rows_count c.args.rows.now)
+    omega (arith, rows_count c.args.run.rows.now)
 
 pub loop-row-preserved : goal.loop-row-preserved
 loop-row-preserved c =

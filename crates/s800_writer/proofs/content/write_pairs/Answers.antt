@@ -16,7 +16,7 @@ use Rattle.s800_writer.proofs.Pairs.{short_time, pairs_stop, pairs_inside, pairs
 use Rattle.s800_writer.proofs.content.write_pairs.Goals as goal
 
 pub loop-format-init : goal.loop-format-init
-loop-format-init c = (begin (rw c.pair_energies-format.ensures blocked_none) c.requires.inside c.requires.few, c.pair_energies-format.ensures)
+loop-format-init c = (begin (rw c.pair_energies-format.ensures blocked_none) c.args.run.inside c.args.run.few, c.pair_energies-format.ensures)
 
 pub returns-in_err-check_channel : goal.returns-in_err-check_channel
 returns-in_err-check_channel c =
@@ -28,13 +28,13 @@ pub overflow_add-i : goal.overflow_add-i
 overflow_add-i c =
     let passed = passed_test (datum_fault pair_format c.loop-format.blocked c.row_at-energy.result) c.loop-format.i (rw c.loop-format.invariant.1 at c.in_ok-check_channel.ensures) in
     let inside = pairs_inside c.loop-format.invariant.0 (sym c.loop-format-test.true ∙ c.before_kind.ensures) c.row_at-energy.ensures passed in
-    omega (arith, rows_count c.args.rows.now)
+    omega (arith, rows_count c.args.run.rows.now)
 
 pub overflow_add-i-in-loop-format : goal.overflow_add-i-in-loop-format
 overflow_add-i-in-loop-format c =
     let passed = passed_test (datum_fault pair_format c.loop-format.blocked c.row_at-energy.result) c.loop-format.i (rw c.loop-format.invariant.1 at c.in_ok-check_channel.ensures) in
     let inside = pairs_inside c.loop-format.invariant.0 (sym c.loop-format-test.true ∙ c.before_kind.ensures) c.row_at-energy.ensures passed in
-    omega (arith, rows_count c.args.rows.now)
+    omega (arith, rows_count c.args.run.rows.now)
 
 pub returns-in_err-check_time : goal.returns-in_err-check_time
 returns-in_err-check_time c =
@@ -50,7 +50,7 @@ store_pair-requires c =
     let inside = pairs_inside c.loop-format.invariant.0 (sym c.loop-format-test.true ∙ c.before_kind.ensures) c.row_at-energy.ensures passed in
     let s = sound pair_format c.loop-format.blocked c.row_at-energy.result passed in
     let few = c.loop-format.invariant.0.few in (
-      omega (arith, rows_count c.args.rows.now),
+      omega (arith, rows_count c.args.run.rows.now),
       omega (arith, s.low),
       s.number,
       short_time c.row_at-energy.result.channel c.row_at-time.result timed,
@@ -61,14 +61,14 @@ overflow_add-at c =
     let passed = passed_test (datum_fault pair_format c.loop-format.blocked c.row_at-energy.result) c.loop-format.i (rw c.loop-format.invariant.1 at c.in_ok-check_channel.ensures) in
     let timed = passed_test (time_fault c.row_at-energy.result.channel c.row_at-time.result) (c.loop-format.i + 1) c.in_ok-check_time.ensures in
     let inside = pairs_inside_2 c.loop-format.invariant.0 (sym c.loop-format-test.true ∙ c.before_kind.ensures) c.row_at-energy.ensures passed c.row_at-time.ensures timed in
-    omega (arith, c.loop-format.invariant.0.few, rows_count c.args.rows.now)
+    omega (arith, c.loop-format.invariant.0.few, rows_count c.args.run.rows.now)
 
 pub overflow_add-i-in-loop-format-2 : goal.overflow_add-i-in-loop-format-2
 overflow_add-i-in-loop-format-2 c =
     let passed = passed_test (datum_fault pair_format c.loop-format.blocked c.row_at-energy.result) c.loop-format.i (rw c.loop-format.invariant.1 at c.in_ok-check_channel.ensures) in
     let timed = passed_test (time_fault c.row_at-energy.result.channel c.row_at-time.result) (c.loop-format.i + 1) c.in_ok-check_time.ensures in
     let inside = pairs_inside_2 c.loop-format.invariant.0 (sym c.loop-format-test.true ∙ c.before_kind.ensures) c.row_at-energy.ensures passed c.row_at-time.ensures timed in
-    omega (arith, rows_count c.args.rows.now)
+    omega (arith, rows_count c.args.run.rows.now)
 
 pub loop-format-preserved : goal.loop-format-preserved
 loop-format-preserved c =

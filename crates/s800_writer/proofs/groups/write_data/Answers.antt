@@ -17,12 +17,12 @@ use Rattle.s800_writer.proofs.groups.write_data.Goals as goal
 
 pub returns-then-row : goal.returns-then-row
 returns-then-row c =
-    let good : Passed (sample_head_checks 0 (sample_head_of c.args.head)) = head_checks c.args.head c.requires.1 c.requires.2 in
+    let good : Passed (sample_head_checks 0 (sample_head_of c.args.head)) = head_checks c.args.head c.requires.0 c.requires.1 in
     data_end (sample_head_of c.args.head) good c.loop-head.invariant c.row_at-row.ensures c.if-row.true
 
 pub returns-in_err-check_sample_datum : goal.returns-in_err-check_sample_datum
 returns-in_err-check_sample_datum c =
-    let good : Passed (sample_head_checks 0 (sample_head_of c.args.head)) = head_checks c.args.head c.requires.1 c.requires.2 in
+    let good : Passed (sample_head_checks 0 (sample_head_of c.args.head)) = head_checks c.args.head c.requires.0 c.requires.1 in
     let failed = failed_test (sample_datum_fault (sample_head_of c.args.head) c.loop-head.least c.row_at-row.result) c.loop-head.i c.in_err-check_sample_datum.ensures in
     rw (handed_on c.from_residual.result c.from_residual.ensures.1)
     (data_stop (sample_head_of c.args.head) good c.loop-head.invariant c.row_at-row.ensures c.if-row.false c.loop-head.words failed)
@@ -40,26 +40,26 @@ overflow_add-least c =
 pub overflow_add-at : goal.overflow_add-at
 overflow_add-at c =
     let faultless : 0 ≡ sample_datum_fault (sample_head_of c.args.head) c.loop-head.least c.row_at-row.result = passed_test _ c.loop-head.i c.in_ok-check_sample_datum.ensures in
-    let inside : c.loop-head.i < length (rows_in c.args.rows.now) = (datum_taken (sample_head_of c.args.head) c.loop-head.least c.row_at-row.result (rows_in c.args.rows.now) c.loop-head.i
+    let inside : c.loop-head.i < length (rows_in c.args.run.rows.now) = (datum_taken (sample_head_of c.args.head) c.loop-head.least c.row_at-row.result (rows_in c.args.run.rows.now) c.loop-head.i
     c.row_at-row.ensures faultless).0 in
-    omega (arith, c.loop-head.invariant.few, rows_count c.args.rows.now, inside)
+    omega (arith, c.loop-head.invariant.few, rows_count c.args.run.rows.now, inside)
 
 pub overflow_add-i : goal.overflow_add-i
 overflow_add-i c =
     let faultless : 0 ≡ sample_datum_fault (sample_head_of c.args.head) c.loop-head.least c.row_at-row.result = passed_test _ c.loop-head.i c.in_ok-check_sample_datum.ensures in
-    let inside : c.loop-head.i < length (rows_in c.args.rows.now) = (datum_taken (sample_head_of c.args.head) c.loop-head.least c.row_at-row.result (rows_in c.args.rows.now) c.loop-head.i
+    let inside : c.loop-head.i < length (rows_in c.args.run.rows.now) = (datum_taken (sample_head_of c.args.head) c.loop-head.least c.row_at-row.result (rows_in c.args.run.rows.now) c.loop-head.i
     c.row_at-row.ensures faultless).0 in
-    omega (arith, rows_count c.args.rows.now, inside)
+    omega (arith, rows_count c.args.run.rows.now, inside)
 
 pub loop-head-smaller : goal.loop-head-smaller
 loop-head-smaller c =
     let faultless : 0 ≡ sample_datum_fault (sample_head_of c.args.head) c.loop-head.least c.row_at-row.result = passed_test _ c.loop-head.i c.in_ok-check_sample_datum.ensures in
-    let inside : c.loop-head.i < length (rows_in c.args.rows.now) = (datum_taken (sample_head_of c.args.head) c.loop-head.least c.row_at-row.result (rows_in c.args.rows.now) c.loop-head.i
+    let inside : c.loop-head.i < length (rows_in c.args.run.rows.now) = (datum_taken (sample_head_of c.args.head) c.loop-head.least c.row_at-row.result (rows_in c.args.run.rows.now) c.loop-head.i
     c.row_at-row.ensures faultless).0 in
     omega (arith, inside)
 
 pub loop-head-preserved : goal.loop-head-preserved
 loop-head-preserved c =
-    let good : Passed (sample_head_checks 0 (sample_head_of c.args.head)) = head_checks c.args.head c.requires.1 c.requires.2 in
+    let good : Passed (sample_head_checks 0 (sample_head_of c.args.head)) = head_checks c.args.head c.requires.0 c.requires.1 in
     let faultless : 0 ≡ sample_datum_fault (sample_head_of c.args.head) c.loop-head.least c.row_at-row.result = passed_test _ c.loop-head.i c.in_ok-check_sample_datum.ensures in
     data_step (sample_head_of c.args.head) good c.loop-head.invariant c.row_at-row.ensures c.if-row.false faultless c.store_datum.ensures c.store_datum.auto.words

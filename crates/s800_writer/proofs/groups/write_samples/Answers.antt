@@ -30,22 +30,27 @@ store_head-requires c =
 pub overflow_add-i : goal.overflow_add-i
 overflow_add-i c =
     let faultless : 0 ≡ limits_fault 8 511 63 0 c.row_at-head.result = passed_test _ c.loop-refusal.i c.in_default.ensures in
-    let inside : c.loop-refusal.i < length (rows_in c.args.rows.now) = head_inside (rows_in c.args.rows.now) c.loop-refusal.i c.row_at-head.ensures faultless in
-    omega (arith, rows_count c.args.rows.now, inside)
+    let inside : c.loop-refusal.i < length (rows_in c.args.run.rows.now) = head_inside (rows_in c.args.run.rows.now) c.loop-refusal.i c.row_at-head.ensures faultless in
+    omega (arith, rows_count c.args.run.rows.now, inside)
 
 pub overflow_add-at : goal.overflow_add-at
 overflow_add-at c =
     let faultless : 0 ≡ limits_fault 8 511 63 0 c.row_at-head.result = passed_test _ c.loop-refusal.i c.in_default.ensures in
-    let inside : c.loop-refusal.i < length (rows_in c.args.rows.now) = head_inside (rows_in c.args.rows.now) c.loop-refusal.i c.row_at-head.ensures faultless in
-    omega (arith, c.loop-refusal.invariant.few, rows_count c.args.rows.now, inside)
+    let inside : c.loop-refusal.i < length (rows_in c.args.run.rows.now) = head_inside (rows_in c.args.run.rows.now) c.loop-refusal.i c.row_at-head.ensures faultless in
+    omega (arith, c.loop-refusal.invariant.few, rows_count c.args.run.rows.now, inside)
+
+pub invariant_of-write_data : goal.invariant_of-write_data
+invariant_of-write_data c =
+    let faultless : 0 ≡ limits_fault 8 511 63 0 c.row_at-head.result = passed_test _ c.loop-refusal.i c.in_default.ensures in
+    let inside : c.loop-refusal.i < length (rows_in c.args.run.rows.now) = head_inside (rows_in c.args.run.rows.now) c.loop-refusal.i c.row_at-head.ensures faultless in
+    let few = c.loop-refusal.invariant.few in
+    record { inside = omega (arith, inside); few = omega arith }
 
 pub write_data-requires : goal.write_data-requires
 write_data-requires c =
     let faultless : 0 ≡ limits_fault 8 511 63 0 c.row_at-head.result = passed_test _ c.loop-refusal.i c.in_default.ensures in
-    let inside : c.loop-refusal.i < length (rows_in c.args.rows.now) = head_inside (rows_in c.args.rows.now) c.loop-refusal.i c.row_at-head.ensures faultless in
     let bounds : Bounded 8 511 63 0 c.row_at-head.result = bounded 8 511 63 0 _ faultless in
-    let few = c.loop-refusal.invariant.few in
-    (record { inside = omega (arith, inside); few = omega arith }, bounds.unit, bounds.channel)
+    (bounds.unit, bounds.channel)
 
 pub returns-in_err-data : goal.returns-in_err-data
 returns-in_err-data c =
@@ -56,8 +61,8 @@ returns-in_err-data c =
 pub overflow_add-i-in-loop-refusal : goal.overflow_add-i-in-loop-refusal
 overflow_add-i-in-loop-refusal c =
     let faultless : 0 ≡ limits_fault 8 511 63 0 c.row_at-head.result = passed_test _ c.loop-refusal.i c.in_default.ensures in
-    let inside : c.loop-refusal.i < length (rows_in c.args.rows.now) = head_inside (rows_in c.args.rows.now) c.loop-refusal.i c.row_at-head.ensures faultless in
-    omega (arith, rows_count c.args.rows.now, inside)
+    let inside : c.loop-refusal.i < length (rows_in c.args.run.rows.now) = head_inside (rows_in c.args.run.rows.now) c.loop-refusal.i c.row_at-head.ensures faultless in
+    omega (arith, rows_count c.args.run.rows.now, inside)
 
 pub returns-then-data-i : goal.returns-then-data-i
 returns-then-data-i c =

@@ -14,41 +14,41 @@ use Rattle.s800_writer.proofs.other_packets.write_anode.Goals as goal
 
 pub returns-in_err-check_limits : goal.returns-in_err-check_limits
 returns-in_err-check_limits c =
-    let failed = failed_test (limits_fault 9 0 65535 65535 c.row_at-row.result) c.args.from c.in_err-check_limits.ensures in
+    let failed = failed_test (limits_fault 9 0 65535 65535 c.row_at-row.result) c.args.run.from c.in_err-check_limits.ensures in
     rw (handed_on c.from_residual.result c.from_residual.ensures.1)
-    (writes_refused 16 (λ a. framed anode_tag (anode_words a)) (anode_refused (rows_in c.args.rows.now) c.args.from c.row_at-row.ensures failed) refl)
+    (writes_refused 16 (λ a. framed anode_tag (anode_words a)) (anode_refused (rows_in c.args.run.rows.now) c.args.run.from c.row_at-row.ensures failed) refl)
 
-pub overflow_add-at : goal.overflow_add-at
-overflow_add-at c =
-    let passed = passed_test (limits_fault 9 0 65535 65535 c.row_at-row.result) c.args.from c.in_ok-check_limits.ensures in
-    omega (arith, rows_count c.args.rows.now, c.requires.few, anode_inside (rows_in c.args.rows.now) c.args.from c.row_at-row.ensures passed)
+pub overflow_add-run : goal.overflow_add-run
+overflow_add-run c =
+    let passed = passed_test (limits_fault 9 0 65535 65535 c.row_at-row.result) c.args.run.from c.in_ok-check_limits.ensures in
+    omega (arith, rows_count c.args.run.rows.now, c.args.run.few, anode_inside (rows_in c.args.run.rows.now) c.args.run.from c.row_at-row.ensures passed)
 
-pub overflow_add-at-2 : goal.overflow_add-at-2
-overflow_add-at-2 c =
-    let passed = passed_test (limits_fault 9 0 65535 65535 c.row_at-row.result) c.args.from c.in_ok-check_limits.ensures in
-    omega (arith, rows_count c.args.rows.now, c.requires.few, anode_inside (rows_in c.args.rows.now) c.args.from c.row_at-row.ensures passed)
+pub overflow_add-run-2 : goal.overflow_add-run-2
+overflow_add-run-2 c =
+    let passed = passed_test (limits_fault 9 0 65535 65535 c.row_at-row.result) c.args.run.from c.in_ok-check_limits.ensures in
+    omega (arith, rows_count c.args.run.rows.now, c.args.run.few, anode_inside (rows_in c.args.run.rows.now) c.args.run.from c.row_at-row.ensures passed)
 
-pub overflow_add-at-3 : goal.overflow_add-at-3
-overflow_add-at-3 c =
-    let passed = passed_test (limits_fault 9 0 65535 65535 c.row_at-row.result) c.args.from c.in_ok-check_limits.ensures in
-    omega (arith, rows_count c.args.rows.now, c.requires.few, anode_inside (rows_in c.args.rows.now) c.args.from c.row_at-row.ensures passed)
+pub overflow_add-run-3 : goal.overflow_add-run-3
+overflow_add-run-3 c =
+    let passed = passed_test (limits_fault 9 0 65535 65535 c.row_at-row.result) c.args.run.from c.in_ok-check_limits.ensures in
+    omega (arith, rows_count c.args.run.rows.now, c.args.run.few, anode_inside (rows_in c.args.run.rows.now) c.args.run.from c.row_at-row.ensures passed)
 
 pub close-requires : goal.close-requires
 close-requires c =
-    let passed = passed_test (limits_fault 9 0 65535 65535 c.row_at-row.result) c.args.from c.in_ok-check_limits.ensures in
-    omega (arith, rows_count c.args.rows.now, c.requires.few, anode_inside (rows_in c.args.rows.now) c.args.from c.row_at-row.ensures passed)
+    let passed = passed_test (limits_fault 9 0 65535 65535 c.row_at-row.result) c.args.run.from c.in_ok-check_limits.ensures in
+    omega (arith, rows_count c.args.run.rows.now, c.args.run.few, anode_inside (rows_in c.args.run.rows.now) c.args.run.from c.row_at-row.ensures passed)
 
 pub overflow_add-result : goal.overflow_add-result
 overflow_add-result c =
-    let passed = passed_test (limits_fault 9 0 65535 65535 c.row_at-row.result) c.args.from c.in_ok-check_limits.ensures in
-    omega (arith, rows_count c.args.rows.now, c.requires.few, anode_inside (rows_in c.args.rows.now) c.args.from c.row_at-row.ensures passed)
+    let passed = passed_test (limits_fault 9 0 65535 65535 c.row_at-row.result) c.args.run.from c.in_ok-check_limits.ensures in
+    omega (arith, rows_count c.args.run.rows.now, c.args.run.few, anode_inside (rows_in c.args.run.rows.now) c.args.run.from c.row_at-row.ensures passed)
 
 pub overflow_add-result-2 : goal.overflow_add-result-2
 overflow_add-result-2 c =
-    let passed = passed_test (limits_fault 9 0 65535 65535 c.row_at-row.result) c.args.from c.in_ok-check_limits.ensures in
-    omega (arith, rows_count c.args.rows.now, c.requires.few, anode_inside (rows_in c.args.rows.now) c.args.from c.row_at-row.ensures passed)
+    let passed = passed_test (limits_fault 9 0 65535 65535 c.row_at-row.result) c.args.run.from c.in_ok-check_limits.ensures in
+    omega (arith, rows_count c.args.run.rows.now, c.args.run.few, anode_inside (rows_in c.args.run.rows.now) c.args.run.from c.row_at-row.ensures passed)
 
 pub returns : goal.returns
 returns c =
-    let passed = passed_test (limits_fault 9 0 65535 65535 c.row_at-row.result) c.args.from c.in_ok-check_limits.ensures in
-    anode_taken (rows_in c.args.rows.now) c.args.from c.row_at-row.ensures passed c.requires.few c.store_word.ensures c.store_word-2.ensures c.close.ensures
+    let passed = passed_test (limits_fault 9 0 65535 65535 c.row_at-row.result) c.args.run.from c.in_ok-check_limits.ensures in
+    anode_taken (rows_in c.args.run.rows.now) c.args.run.from c.row_at-row.ensures passed c.args.run.few c.store_word.ensures c.store_word-2.ensures c.close.ensures

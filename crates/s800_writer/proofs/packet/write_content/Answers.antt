@@ -20,7 +20,7 @@ pub returns-in-Crdc : goal.returns-in-Crdc
 returns-in-Crdc c = rw c.in-Crdc.is c.write_crdc.ensures
 
 pub write_hodoscope-requires : goal.write_hodoscope-requires
-write_hodoscope-requires c = (c.requires.0, rw c.in-Hodoscope.is at c.requires.2)
+write_hodoscope-requires c = rw c.in-Hodoscope.is at c.requires.1
 
 pub returns-in-Hodoscope : goal.returns-in-Hodoscope
 returns-in-Hodoscope c = rw c.in-Hodoscope.is c.write_hodoscope.ensures
@@ -29,12 +29,12 @@ pub returns-in-ObjectPin : goal.returns-in-ObjectPin
 returns-in-ObjectPin c = rw c.in-ObjectPin.is c.write_object_pin.ensures
 
 pub write_vme_adc-requires : goal.write_vme_adc-requires
-write_vme_adc-requires c = (c.requires.0, rw c.in-VmeAdc.is at c.requires.2)
+write_vme_adc-requires c = rw c.in-VmeAdc.is at c.requires.1
 
 pub returns-in-VmeAdc : goal.returns-in-VmeAdc
 returns-in-VmeAdc c = rw c.in-VmeAdc.is c.write_vme_adc.ensures
 
 pub returns-in_default : goal.returns-in_default
 returns-in_default c =
-    let o = an_opaque c.args.tag (record { not_trigger = c.in_default.not-Trigger; not_time_of_flight = c.in_default.not-TimeOfFlight; not_scintillator = c.in_default.not-Scintillator; not_ion_chamber = c.in_default.not-IonChamber; not_crdc = c.in_default.not-Crdc; not_hodoscope = c.in_default.not-Hodoscope; not_object_pin = c.in_default.not-ObjectPin; not_vme_adc = c.in_default.not-VmeAdc }) c.requires.1 in
-    rw o.1 (c.write_opaque.ensures o.0 (sym c.requires.1 ∙ ap tag o.1))
+    let o = an_opaque c.args.tag (record { not_trigger = c.in_default.not-Trigger; not_time_of_flight = c.in_default.not-TimeOfFlight; not_scintillator = c.in_default.not-Scintillator; not_ion_chamber = c.in_default.not-IonChamber; not_crdc = c.in_default.not-Crdc; not_hodoscope = c.in_default.not-Hodoscope; not_object_pin = c.in_default.not-ObjectPin; not_vme_adc = c.in_default.not-VmeAdc }) c.requires.0 in
+    rw o.1 (c.write_opaque.ensures o.0 (sym c.requires.0 ∙ ap tag o.1))

@@ -10,23 +10,23 @@ use Rattle.s800_writer.proofs.packet.write_packet.Goals as goal
 
 pub returns-in_err-check_header : goal.returns-in_err-check_header
 returns-in_err-check_header c =
-    let failed = failed_test (header_fault c.row_at-row.result) c.args.own c.in_err-check_header.ensures in
+    let failed = failed_test (header_fault c.row_at-row.result) c.args.own.at c.in_err-check_header.ensures in
     rw (handed_on c.from_residual.result c.from_residual.ensures.1)
-    (own_refused (rows_in c.args.rows.now) c.args.own c.row_at-row.ensures failed)
+    (own_refused (rows_in c.args.own.rows.now) c.args.own.at c.row_at-row.ensures failed)
 
 pub write_content-requires : goal.write_content-requires
 write_content-requires c =
-    let passed = passed_test (header_fault c.row_at-row.result) c.args.own c.in_ok-check_header.ensures in
-    let k = own_known (rows_in c.args.rows.now) c.args.own c.row_at-row.ensures passed in
-    (c.requires, rw c.in-Some.ensures at k.0, rw c.in-Some.ensures at k.1)
+    let passed = passed_test (header_fault c.row_at-row.result) c.args.own.at c.in_ok-check_header.ensures in
+    let k = own_known (rows_in c.args.own.rows.now) c.args.own.at c.row_at-row.ensures passed in
+    (rw c.in-Some.ensures at k.0, rw c.in-Some.ensures at k.1)
 
 pub returns : goal.returns
 returns c =
-    let passed = passed_test (header_fault c.row_at-row.result) c.args.own c.in_ok-check_header.ensures in
-    own_taken (rows_in c.args.rows.now) c.args.own c.row_at-row.ensures passed (rw (sym c.in-Some.ensures) at c.write_content.ensures)
+    let passed = passed_test (header_fault c.row_at-row.result) c.args.own.at c.in_ok-check_header.ensures in
+    own_taken (rows_in c.args.own.rows.now) c.args.own.at c.row_at-row.ensures passed (rw (sym c.in-Some.ensures) at c.write_content.ensures)
 
 pub unreachable-requires : goal.unreachable-requires
 unreachable-requires c =
-    let passed = passed_test (header_fault c.row_at-row.result) c.args.own c.in_ok-check_header.ensures in
-    let k = own_known (rows_in c.args.rows.now) c.args.own c.row_at-row.ensures passed in
+    let passed = passed_test (header_fault c.row_at-row.result) c.args.own.at c.in_ok-check_header.ensures in
+    let k = own_known (rows_in c.args.own.rows.now) c.args.own.at c.row_at-row.ensures passed in
     let t = some_tag (form_of c.row_at-row.result.unit) in c.in-None.ensures t.0 (sym k.0 ∙ t.1)

@@ -1,6 +1,5 @@
 -- `whole::write_event` meets its contract. Assumes nothing.
 use Prim.Native.Nat.{ℕ, ◌-◌}
-use native.Mathlib.Omega.{arith}
 use mathlib.Core.Path.{refl}
 use mathlib.Core.List.{List}
 use lib.ListN.{length}
@@ -23,15 +22,6 @@ returns-in_err-write_number c =
     (rows_in c.args.rows.now) c.args.words.now c.store_word.ensures c.part_start-at.ensures refl c.in_ok-write_stamp.ensures refl in
     rw (handed_on c.from_residual-in_err-write_number.result c.from_residual-in_err-write_number.ensures.1)
     (number_laid c.args.order (rows_in c.args.rows.now) stamped c.in_err-write_number.ensures)
-
-pub write_packets-requires : goal.write_packets-requires
-write_packets-requires c =
-    let stamped : Stamped c.args.order (rows_in c.args.rows.now) c.args.words.now (withPart c.part_start-at.result c.store_word.new.words c.write_stamp.new.part) = stamp_done c.args.order
-    (rows_in c.args.rows.now) c.args.words.now c.store_word.ensures c.part_start-at.ensures refl c.in_ok-write_stamp.ensures refl in
-    let begun : Begun c.args.order (rows_in c.args.rows.now) c.args.words.now (withPart c.part_start-at-2.result
-    (withPart c.part_start-at.result c.store_word.new.words c.write_stamp.new.part) c.write_number.new.part) = number_done c.args.order (rows_in c.args.rows.now) c.args.words.now
-    stamped c.part_start-at-2.ensures refl c.in_ok-write_number.ensures refl in
-    record { inside = begun.inside; few = omega arith }
 
 pub returns-in_err-packets : goal.returns-in_err-packets
 returns-in_err-packets c =

@@ -1,8 +1,0 @@
--- `sum::sum_chamber` meets its contract. Assumes nothing.
-use Rattle.std.proofs.Common.{◌+◌}
-use Rattle.event.specs.Writing.{rows_in}
-use Rattle.rcnp_writer.specs.Parts.{Summed}
-use Rattle.rcnp_writer.proofs.sum.sum_chamber.Given as goal
-
-abbrev pub invariant-loop-k : goal.invariant-loop-k
-invariant-loop-k l = Summed (rows_in l.rows) l.first (l.first + l.k) l.sum

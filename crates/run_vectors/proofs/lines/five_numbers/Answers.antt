@@ -1,5 +1,0 @@
--- `lines::five_numbers` meets its contract. Assumes nothing.
-use Rattle.run_vectors.proofs.lines.five_numbers.Goals as goal
-
-pub returns : goal.returns
-returns c = rw (c.number_at.ensures, c.number_at-2.ensures, c.number_at-3.ensures, c.number_at-4.ensures, c.number_at-5.ensures)
