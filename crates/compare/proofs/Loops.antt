@@ -104,7 +104,8 @@ module _ {A : Type 0} {numbers : A → List ℕ} {w : ℕ} {all : List (Differen
   pub fill_room : found + 1 ≤ length all
   fill_room = omega (arith, f.room)
 
-  pub fill_more : {list' : List ℕ} → length (entry numbers d) ≡ w → w * found + w ≡ w * (found + 1) → list' ≡ sets list (w * found) (entry numbers d) → Filling numbers w all before left (found + 1) list'
+  pub fill_more : {list' : List ℕ} → length (entry numbers d) ≡ w → w * found + w ≡ w * (found + 1) → list' ≡ sets list (w * found) (entry numbers d)
+      → Filling numbers w all before left (found + 1) list'
   fill_more {list'} l k q =
       let at : w * (found + 1) ≡ w * found + length (entry numbers d) = sym k ∙ ap (w * found +◌) (sym l) in
       record {
