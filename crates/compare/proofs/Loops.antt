@@ -99,15 +99,13 @@ pub record Filling {A : Type 0} (numbers : A → List ℕ) (w : ℕ) (all : List
   pub room : found + length left ≡ length all
   pub rest : sets list (w * found) (entries numbers left) ≡ sets before 0 (entries numbers all)
 
-pub fill_start : {A : Type 0} (numbers : A → List ℕ) (w : ℕ) (all : List (Difference A)) (before : List ℕ) → Filling numbers w all before all 0 before
-fill_start numbers w all before = let e : w * 0 ≡ 0 = omega arith in record { size = refl; room = zero-add (length all); rest = rw e }
-
 module _ {A : Type 0} {numbers : A → List ℕ} {w : ℕ} {all : List (Difference A)} {before : List ℕ} {d : Difference A} {left : List (Difference A)} {found : ℕ} {list : List ℕ}
     (f : Filling numbers w all before (d ∷ left) found list) where
   pub fill_room : found + 1 ≤ length all
   fill_room = omega (arith, f.room)
 
-  pub fill_more : {list' : List ℕ} → length (entry numbers d) ≡ w → w * found + w ≡ w * (found + 1) → list' ≡ sets list (w * found) (entry numbers d) → Filling numbers w all before left (found + 1) list'
+  pub fill_more : {list' : List ℕ} → length (entry numbers d) ≡ w → w * found + w ≡ w * (found + 1) → list' ≡ sets list (w * found) (entry numbers d)
+      → Filling numbers w all before left (found + 1) list'
   fill_more {list'} l k q =
       let at : w * (found + 1) ≡ w * found + length (entry numbers d) = sym k ∙ ap (w * found +◌) (sym l) in
       record {

@@ -20,7 +20,8 @@ unfolding fault_of character hex_of is_digit digit_of all_digits all_groups well
 stamps = refl
 
 pub shorter : Shorter
-unfolding fault_of character hex_of is_digit digit_of all_digits all_groups well_formed value_of firsts field accepted_text refused_text answers_text tail_line tail_text end_text compared_text differences_from
+unfolding fault_of character hex_of is_digit digit_of all_digits all_groups well_formed value_of firsts field accepted_text refused_text answers_text
+    tail_line tail_text end_text compared_text differences_from
 shorter = refl
 
 pub no_line : NoLine

@@ -31,9 +31,6 @@ module _ {A : Type 0} (numbers : A → List ℕ) (w : ℕ) (size : (d : Differen
     pub ends : end + n * (length rest / w) ≡ at + n * (length list / w)
     pub put : (ds : List (Difference A)) → list ≡ entries numbers ds → Part line text₀ at text end rest ds
 
-  pub put_start : (line : Difference A → List ℕ) (n : ℕ) (list text : List ℕ) (at : ℕ) → Putting line n list text at text at list
-  put_start line n list text at = record { whole = refl; ends = refl; put = λ ds e. record { done = []; left = ds; both = refl; entries_left = e; placed = placed_none text at } }
-
   module _ {line : Difference A → List ℕ} {n : ℕ} {list text₀ : List ℕ} {at : ℕ} {text : List ℕ} {end : ℕ} {rest : List ℕ} (p : Putting line n list text₀ at text end rest) where
     -- the next entry
     pub put_next : {x rest' : List ℕ} → rest ≡ x ++ rest' → length x ≡ w → 0 < w → {y : Difference A} → length (line y) ≡ n → ((d : Difference A) → x ≡ entry numbers d → y ≡ d)

@@ -77,14 +77,8 @@ module _ (d : Dialect) (o : StampOrder) (a b : List ℕ) where
   -- room for each part of the text, one behind another from `at` on
   module _ (la : length a ≤ most_words S) (lb : length b ≤ most_words S) {m n : ℕ} {words rows : List ℕ} (l : Lists m n words rows)
       (at : ℕ) {size : ℕ} (h : at + compared_length ≤ size) where
-    word_numbers : length (take (3 * m) words) / 3 ≡ length ds
-    word_numbers = rw (length-take-le (3 * m) words l.word_room) (omega (arith, l.words_listed_lem))
-
     row_numbers : length (take (9 * n) rows) / 9 ≡ length es
     row_numbers = rw (length-take-le (9 * n) rows l.row_room) (omega (arith, l.rows_listed_lem))
-
-    pub room_words_lem : at + word_length * (length (take (3 * m) words) / 3) ≤ size
-    room_words_lem = rw word_numbers (omega (arith, words_and_tail d o a b la lb))
 
     -- where the words end, and where the tail ends
     module _ {text₀ text₁ : List ℕ} {end₁ : ℕ} (p : Placed text₀ at (each word_text ds) end₁ text₁) where

@@ -56,12 +56,6 @@ module _ {A : Type 0} (f : A → List ℕ) where
   each_length n l [] = omega arith
   each_length n l (x ∷ xs) = length-append (f x) (each f xs) ∙ rw (l x, each_length n l xs, mul-suc) (omega arith)
 
-  -- one more
-  pub each_next : (xs : List A) (i : ℕ) (z : A) → i < length xs → each f (take (i + 1) xs) ≡ each f (take i xs) ++ f (get_or xs i z)
-  each_next [] i z h = absurd (not-suc-le-zero h)
-  each_next (x ∷ xs) zero z h = append-nil (f x)
-  each_next (x ∷ xs) (suc i) z h = rw (suc-add, each_next xs i z (le_of_suc-le-suc h), append_assoc)
-
 -- one more word of a tail
 pub tails_next : (label : List ℕ) (k : ℕ) (ws : List ℕ) (i : ℕ) → i < length ws
     → tail_lines label k (take (i + 1) ws) ≡ tail_lines label k (take i ws) ++ tail_line label (k + i) (get_or ws i 0)
