@@ -4,7 +4,7 @@ use Prim.Native.Nat.{ℕ, ◌+◌, ◌-◌, ◌*◌, ◌≤◌, ◌<◌, min}
 use native.Mathlib.Omega.{arith}
 use mathlib.Core.Path.{◌≡◌, refl, sym, ap, ◌∙◌}
 use mathlib.Core.Bool.{Bool, true, false, cond}
-use mathlib.Core.List.{List}
+use mathlib.Core.List.{List, []}
 use lib.Dec.{leb, ltb}
 use lib.ListN.{length, set, take, drop}
 use borrow.Author.Tests.{leb-true, ltb-true, ltb-false, le-leb, lt-leb, lt-ltb, le-ltb}
@@ -20,9 +20,7 @@ use Rattle.event.proofs.Impossible.{impossible}
 use Rattle.s800_layout.specs.Reading.{reading}
 use Rattle.page_layout.specs.declared.Page.{Page}
 use Rattle.page_layout.specs.Page.{slot_of, place_of, length_of, event_at, sound, if_sound, if_read, adding, with_newest, added, added_room, dropping, dropped, finding, read_back}
-use Rattle.page_layout.proofs.Queue.{held_length}
-use Rattle.page_layout.proofs.Calls.{reads_back}
-use Rattle.page.specs.Found.{page_fault, IsFound}
+use Rattle.page.specs.Found.{page_fault}
 
 -- the part of the room that is an event's
 pub slot_part : (p : Page) (room : List ℕ) (k : ℕ) → take (place_of p k + length_of p k - place_of p k) (drop (place_of p k) room) ≡ event_at p room k
@@ -137,9 +135,10 @@ module _ (p : Page) (room : List ℕ) (k : ℕ) where
       go true f false g q = impossible cc
       go true f true g q = (f, ltb-true k p.count g)
 
-  pub is_found : {n : ℕ} → Ok n ≡ finding p (length room) k → {words : List ℕ} → words ≡ event_at p room k → IsFound p room k words
+  pub not_held : {r : Refusal} → Err r ≡ finding p (length room) k → [] ≡ read_back p room k
   unfolding read_back
-  is_found e {words} h =
-      let d = held_inside e in
-      let w : words ≡ read_back p room k = rw (← e) h in
-      record { answer = (reads_back p room d.0).1 k (omega (arith, held_length p room)) ∙ ap Ok (ap length (sym w)); read = w }
+  not_held e = rw (← e)
+
+  pub is_held : {n : ℕ} → Ok n ≡ finding p (length room) k → event_at p room k ≡ read_back p room k
+  unfolding read_back
+  is_held e = rw (← e)

@@ -8,17 +8,17 @@ use mathlib.Core.Bool.{Bool, true, false, cond}
 use mathlib.Core.List.{List}
 use lib.ListN.{length, drop, length-take}
 use Rattle.std.specs.Prelude.{Ok, Err}
+use Rattle.event.specs.declared.refusal.Refusal.{Refusal}
 use Rattle.event.specs.Refusal.{refusal}
 use Rattle.event.specs.Parser.{All}
 use Rattle.event.proofs.Impossible.{impossible}
 use Rattle.page_layout.specs.declared.Page.{Page}
-use Rattle.page_layout.specs.Plane.{Plane, rows_of, table, at, counted, Shape}
+use Rattle.page_layout.specs.Plane.{rows_of, table, at, counted, no_hits, Shape}
 use Rattle.page_layout.specs.Page.{length_of, place_of, event_at, held, sound, seeing, plane_in}
 use Rattle.page_layout.proofs.Tables.{table_length, table_snoc}
 use Rattle.page_layout.proofs.PlaneLaws.{plane_of_shape}
 use Rattle.page_layout.proofs.SoundPages.{sound_is}
 use Rattle.page.specs.Counting.{with_hits}
-use Rattle.page.specs.Found.{IsPlane}
 use Rattle.page.proofs.EventHits.{counted_next, counted_under}
 
 pub all_table : {A : Type 0} (P : A → Type 0) (n : ℕ) (f : ℕ → A) → ((k : ℕ) → k < n → P (f k)) → All P (table n f)
@@ -38,9 +38,13 @@ module _ (p : Page) (room : List ℕ) where
       go false f q = impossible cc
       go true f q = (f, cc)
 
-  pub is_plane : {n : ℕ} → Ok n ≡ seeing p (length room) → {plane : Plane} → plane ≡ counted (held p room) → IsPlane p room plane
+  pub plane_in_none : {r : Refusal} → Err r ≡ seeing p (length room) → no_hits ≡ plane_in p room
   unfolding plane_in
-  is_plane e h = record { answer = sym e ∙ ap Ok (sees e).1; counted = rw (← e) h }
+  plane_in_none e = rw (← e)
+
+  pub plane_in_all : {n : ℕ} → Ok n ≡ seeing p (length room) → counted (held p room) ≡ plane_in p room
+  unfolding plane_in
+  plane_in_all e = rw (← e)
 
   -- the first k events, and one more
   abbrev pub firsts : ℕ → List (List ℕ)

@@ -1,11 +1,9 @@
 // Pad hits over the events of a page, as a plane of four connectors by sixty-four channels.
-ghost use Rattle.std.specs.Prelude.{ℕ, ◌+◌, ◌*◌, ◌≤◌, ◌<◌, ◌^◌, ◌≡◌, length, Err};
-ghost use Rattle.std.specs.Result.{MatchResult};
+ghost use Rattle.std.specs.Prelude.{ℕ, ◌+◌, ◌*◌, ◌≤◌, ◌<◌, ◌^◌, ◌≡◌, length};
 ghost use Rattle.event.specs.Writing.{rows_in};
 ghost use Rattle.page_layout.specs.Plane.{rows_of, at, by_pad, Shape, OnPlane};
-ghost use Rattle.page_layout.specs.Page.{seeing};
+ghost use Rattle.page_layout.specs.Page.{seeing, plane_in};
 ghost use Rattle.page.specs.Counting.{with_hits};
-ghost use Rattle.page.specs.Found.{IsPlane, IsPads};
 
 use crate::slots::{check_sound, part};
 use event::StampOrder;
@@ -27,25 +25,26 @@ pub fn find_plane(page: &Page, room: &[u16]) -> Result<usize, Refusal>
     Ok(page.count)
 }
 
-// How often each pad was hit in the events held.
-pub fn plane(page: &Page, room: &[u16]) -> Result<[[u32; 64]; 4], Refusal>
-    ensures { MatchResult result (λ plane. IsPlane page.now room.now plane) (λ refusal. Err refusal ≡ seeing page.now (length room.now)) }
+// How often each pad was hit in the events held; no hits where `find_plane` refuses.
+pub fn plane(page: &Page, room: &[u16]) -> [[u32; 64]; 4]
+    ensures { result ≡ plane_in page.now room.now }
 {
-    let count = find_plane(page, room)?;
     let mut plane = [[0u32; 64]; 4];
+    let Ok(count) = find_plane(page, room) else {
+        return plane;
+    };
     let mut rows = [0u32; ELEMENTS];
     for k in 0..count {
         count_event(&mut plane, part(page, room, k), &mut rows);
     }
-    Ok(plane)
+    plane
 }
 
 // The same counts in the order of the pads.
-pub fn counts(page: &Page, room: &[u16]) -> Result<[u32; PADS], Refusal>
-    ensures { MatchResult result (λ counts. IsPads page.now room.now counts) (λ refusal. Err refusal ≡ seeing page.now (length room.now)) }
+pub fn counts(page: &Page, room: &[u16]) -> [u32; PADS]
+    ensures { result ≡ by_pad (plane_in page.now room.now) }
 {
-    let plane = plane(page, room)?;
-    Ok(by_pad(plane))
+    by_pad(plane(page, room))
 }
 
 fn by_pad(plane: [[u32; 64]; 4]) -> [u32; PADS]

@@ -5,10 +5,8 @@
 mod hits;
 mod slots;
 
-ghost use Rattle.std.specs.Prelude.{◌≡◌, length, Ok};
-ghost use Rattle.std.specs.Result.{MatchResult};
+ghost use Rattle.std.specs.Prelude.{◌≡◌, length};
 ghost use Rattle.page_layout.specs.Page.{cleared, added, added_room, dropped, finding, read_back};
-ghost use Rattle.page.specs.Found.{IsFound};
 
 use event::refusal::{Fault, Refusal, refuse};
 pub use hits::{counts, find_plane, plane};
@@ -78,10 +76,12 @@ pub fn find_event(page: &Page, room: &[u16], k: usize) -> Result<usize, Refusal>
     Ok(page.lengths[slot(page, k)])
 }
 
-// The words of event k, oldest first, as part of the room.
-pub fn event<'a>(page: &Page, room: &'a [u16], k: usize) -> Result<&'a [u16], Refusal>
-    ensures { MatchResult result (λ words. IsFound page.now room.now k words.now) (λ refusal. Err refusal ≡ finding page.now (length room.now) k) }
+// The words of event k, oldest first, as part of the room; none where `find_event` refuses.
+pub fn event<'a>(page: &Page, room: &'a [u16], k: usize) -> &'a [u16]
+    ensures { result.now ≡ read_back page.now room.now k }
 {
-    find_event(page, room, k)?;
-    Ok(part(page, room, k))
+    let Ok(_) = find_event(page, room, k) else {
+        return &room[..0];
+    };
+    part(page, room, k)
 }

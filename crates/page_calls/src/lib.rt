@@ -46,9 +46,7 @@ pub fn page_find(page: &[u64], room: &[u16], k: u64, answer: &mut [u64])
 pub fn page_event(page: &[u64], room: &[u16], k: u64, words: &mut [u16])
     ensures { words.new ≡ all_put (read_back (page_of page.now) room.now k) words.old }
 {
-    if let Ok(event) = page::event(&page_of(page), room, k as usize) {
-        put(event, words);
-    }
+    put(page::event(&page_of(page), room, k as usize), words);
 }
 
 pub fn page_find_plane(page: &[u64], room: &[u16], answer: &mut [u64])
@@ -57,12 +55,8 @@ pub fn page_find_plane(page: &[u64], room: &[u16], answer: &mut [u64])
     put_answer(page::find_plane(&page_of(page), room), answer);
 }
 
-// Where the events held cannot be counted, the counts are 0.
 pub fn page_plane(page: &[u64], room: &[u16], counts: &mut [u32])
     ensures { counts.new ≡ all_put (by_pad (plane_in (page_of page.now) room.now)) counts.old }
 {
-    match page::counts(&page_of(page), room) {
-        Ok(pads) => put(&pads, counts),
-        Err(_) => put(&[0; 256], counts),
-    }
+    put(&page::counts(&page_of(page), room), counts);
 }

@@ -33,7 +33,8 @@ impl Form {
     ghost use Rattle.rcnp_layout.specs.Layout.{allowed_size};
     ghost use Rattle.rcnp_format.specs.Form.{form, IsFormOf};
 
-    // The form of an id. A region before the check sum may have no other id.
+    // The form of an id. A region before the check sum may have no other id. (An Option and no TryFrom, since a caller refuses by a number of its own.)
+    #[inline(always)]
     pub fn of(id: u32) -> Option<Form>
         ensures { IsFormOf id result }
     {

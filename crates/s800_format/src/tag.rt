@@ -34,7 +34,9 @@ impl Tag {
         self as u32
     }
 
-    // The tag that a word is.
+    // The tag that a word is: none for most words. (Inlined, so that its match and that of its caller become one branch. An Option and no TryFrom, since a caller
+    // refuses by a number of its own.)
+    #[inline(always)]
     pub fn of(word: u32) -> Option<Tag>
         ensures { IsTagOf word result }
     {
