@@ -35,6 +35,8 @@ pub struct Format {
     pub barred: u32,
 }
 
+// The formats that there are: functions and no constants, which have no contract to say what channels they allow.
+
 // Times of channels 8 to 11.
 pub fn trigger_times() -> Format
     ensures { result ≡ times_of trigger_time }

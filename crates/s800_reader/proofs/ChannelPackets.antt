@@ -1,12 +1,12 @@
 -- The packets that end in channel words, opened: over plain values.
 -- Assumes nothing.
-use Prim.Native.Nat.{ℕ, suc, ◌+◌, ◌-◌, ◌*◌, ◌^◌, ◌≤◌, ◌<◌}
+use Prim.Native.Nat.{ℕ, suc, ◌+◌, ◌-◌, ◌*◌, ◌^◌, ◌≤◌}
 use native.Mathlib.Omega.{arith}
 use mathlib.Core.Path.{◌≡◌, refl, ◌∙◌}
 use mathlib.Core.List.{List, [], ◌∷◌}
 use lib.ListN.{get_or}
 use lib.Seq.{slice, slice_empty}
-use borrow.Author.Tests.{eq-eqb, ne_eqb, lt-ltb, le-ltb, le-leb, lt-leb}
+use borrow.Author.Tests.{eq-eqb, ne_eqb, lt-ltb, le-leb}
 use Rattle.event.specs.Parser.{then, give, ended}
 use Rattle.event.specs.Rows.{row}
 use Rattle.event.specs.Scanning.{store_rows}
@@ -21,7 +21,7 @@ use Rattle.s800_layout.specs.Layout.{packet_row, channels}
 use Rattle.s800_layout.specs.Reading.{datum, channel_words}
 use Rattle.s800_format.specs.Format.{times_of, energies_of}
 use Rattle.s800_reader.specs.Opening.{PacketAt, rest_of, OpensAs}
-use Rattle.s800_reader.proofs.Inner.{inner_length, inner_tag, inner_read}
+use Rattle.s800_reader.proofs.Inner.{inner_tag, inner_read}
 use Rattle.s800_reader.proofs.Opening.{opens_refused, opens_channels, last_rows}
 use Rattle.event.specs.Refusal.{refusal}
 use Rattle.std.specs.Prelude.{Ok, Err}
@@ -46,9 +46,6 @@ module _ {ws : List ℕ} {start n k : ℕ} (s : PacketAt ws start n k) where
     three : suc (start + 2) ≡ start + 3
     three = omega arith
 
-    pub trigger_pattern : {b after : List ℕ} {r : OpenAnswer} → n ≤ 7 → 31 < w → r ≡ Err (refusal 10 (start + 2)) → OpensAs trigger ws start n k b after r
-    trigger_pattern high h q = opens_refused trigger {m = 10} {p = start + 2} q (rw (is_between 3 7 n low high, first_word, eq-eqb w w refl, le-ltb w (2 ^ 5) (omega arith)))
-
     pub trigger_opens : {b after : List ℕ} → n ≤ 7 → w ≤ 31 → after ≡ store_rows b k (packet_row (tag trigger) 0 ∷ row 4 0 0 w ∷ [])
         → OpensAs trigger ws start n k b after (Ok (channels_left (times_of trigger_time) (start + 3) (start + n) (k + 2)))
     trigger_opens high h q =
@@ -59,9 +56,6 @@ module _ {ws : List ℕ} {start n k : ℕ} (s : PacketAt ws start n k) where
         (then_then (channel_words trigger_time (start + 3) (slice (start + 3) (start + n) ws)) _ _))
         (λ xs. last_rows 5 0 (packet_row (tag trigger) 0 ∷ row 4 0 0 w ∷ []) xs) q
 
-    pub hodoscope_id : {b after : List ℕ} {r : OpenAnswer} → n ≤ 19 → 2 < w → r ≡ Err (refusal 8 (start + 2)) → OpensAs hodoscope ws start n k b after r
-    hodoscope_id high h q = opens_refused hodoscope {m = 8} {p = start + 2} q (rw (is_between 3 19 n low high, first_word, eq-eqb w w refl, lt-leb w 2 h))
-
     pub hodoscope_opens : {b after : List ℕ} → n ≤ 19 → w ≤ 2 → (w ≡ 2 → ⊥) → after ≡ store_rows b k (packet_row (tag hodoscope) w ∷ [])
         → OpensAs hodoscope ws start n k b after (Ok (channels_left (energies_of (16 * w) energy16) (start + 3) (start + n) (k + 1)))
     hodoscope_opens high h z q =
@@ -70,9 +64,6 @@ module _ {ws : List ℕ} {start n k : ℕ} (s : PacketAt ws start n k) where
         (rw (is_between 3 19 n low high, first_word, eq-eqb w w refl, le-leb w 2 h, ne_eqb w 2 z, three)
         (then_then (channel_words energy16 (start + 3) (slice (start + 3) (start + n) ws)) _ _))
         (λ xs. last_rows 6 (16 * w) (packet_row (tag hodoscope) w ∷ []) xs) q
-
-    pub adc_id : {b after : List ℕ} {r : OpenAnswer} → n ≤ 11 → 3 < w → r ≡ Err (refusal 8 (start + 2)) → OpensAs vme_adc ws start n k b after r
-    adc_id high h q = opens_refused vme_adc {m = 8} {p = start + 2} q (rw (is_between 3 11 n low high, first_word, eq-eqb w w refl, lt-leb w 3 h))
 
     pub adc_opens : {b after : List ℕ} → n ≤ 11 → w ≤ 3 → after ≡ store_rows b k (packet_row (tag vme_adc) w ∷ [])
         → OpensAs vme_adc ws start n k b after (Ok (channels_left (energies_of (8 * w) adc_energy) (start + 3) (start + n) (k + 1)))
@@ -86,12 +77,6 @@ module _ {ws : List ℕ} {start n k : ℕ} (s : PacketAt ws start n k) where
 
   -- the inner packet of an ion chamber
   module _ (low : 4 ≤ n) (high : n ≤ 20) {v : ℕ} (e : v ≡ get_or ws (start + 2) 0) where
-    pub chamber_length : {b after : List ℕ} {r : OpenAnswer} → (v ≡ n - 2 → ⊥) → r ≡ Err (refusal 9 (start + 2)) → OpensAs ion_chamber ws start n k b after r
-    chamber_length z q = opens_refused ion_chamber {m = 9} {p = start + 2} q (rw (
-      is_between 4 20 n low high,
-      inner_length (n - 2) energies_tag (channel_words energy16) (start + 2) (start + n) ws (omega arith) (omega arith) s.inside e z,
-    ))
-
     module _ (l : v ≡ n - 2) {w : ℕ} (d : w ≡ get_or ws (start + 3) 0) where
       next : w ≡ get_or ws (start + 2 + 1) 0
       next = let three : start + 2 + 1 ≡ start + 3 = omega arith in rw three d

@@ -32,19 +32,6 @@ module _ (m : Format) {w : ℕ} (fits : w < 2 ^ 16) where
   pub low_bit : {channel : ℕ} → channel ≡ channel_of m w → channel % 32 ≡ channel_of m w
   low_bit {channel} e = let l = low in let f : channel % 32 ≡ channel = omega arith in f ∙ e
 
-  module _ (blocked : ℕ) {channel : ℕ} (e : channel ≡ channel_of m w) where
-    pub fault_none : false ≡ present blocked (channel % 32) → 0 ≡ fault_of m blocked w
-    unfolding fault_of
-    fault_none b = let q = rw (low_bit e) at b in rw (← q)
-
-    pub fault_10 : true ≡ present blocked (channel % 32) → true ≡ present m.barred (channel % 32) → 10 ≡ fault_of m blocked w
-    unfolding fault_of
-    fault_10 b a = let p = rw (low_bit e) at a in let q = rw (low_bit e) at b in rw (← p, ← q)
-
-    pub fault_11 : true ≡ present blocked (channel % 32) → false ≡ present m.barred (channel % 32) → 11 ≡ fault_of m blocked w
-    unfolding fault_of
-    fault_11 b a = let p = rw (low_bit e) at a in let q = rw (low_bit e) at b in rw (← p, ← q)
-
   -- the word as the layout reads it
   pub judged : {set : ℕ} {seen : List ℕ} → Blocked m.barred set seen → (i : ℕ) (r : List ℕ)
       → datum (format_of m) seen i (w ∷ r) ≡ on_fault (fault_of m set w) (datum_of (format_of m) w) i r

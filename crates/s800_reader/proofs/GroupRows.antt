@@ -1,6 +1,6 @@
 -- The rows of the words of a CRDC's groups, stored one by one.
 -- Assumes nothing.
-use Prim.Native.Nat.{ℕ, suc, ◌+◌, ◌*◌, ◌-◌, ◌/◌, ◌%◌, ◌^◌, ◌≤◌, ◌<◌, min}
+use Prim.Native.Nat.{ℕ, suc, ◌+◌, ◌-◌, ◌^◌, ◌≤◌, ◌<◌, min}
 use native.Mathlib.Omega.{arith}
 use mathlib.Core.Path.{◌≡◌, refl, sym, ◌∙◌}
 use mathlib.Core.Bool.{Bool, true, false, cond}
@@ -10,12 +10,11 @@ use lib.ListN.{length, get_or, length-append}
 use lib.Seq.{slice, slice_empty}
 use borrow.Author.Tests.{leb-true, leb-false}
 use Rattle.event.specs.declared.Row.{Row}
-use Rattle.event.specs.Rows.{row, room, store_row}
+use Rattle.event.specs.Rows.{room, store_row}
 use Rattle.event.specs.Scanning.{store_rows}
 use Rattle.event.proofs.Leads.{store_append}
 use Rattle.event.proofs.RowStores.{length_rows, past_room}
 use Rattle.event.proofs.Turns.{at_word}
-use Rattle.s800_layout.specs.Layout.{pad}
 use Rattle.s800_reader.specs.Groups.{head_after, word_row, word_rows}
 use Rattle.s800_reader.specs.Groups.{FaultAt}
 use Rattle.event.specs.Refusal.{Answer, refusal}
@@ -26,23 +25,6 @@ use Rattle.s800_layout.specs.Layout.{group_rows}
 use Rattle.s800_reader.specs.Channel.{NoMore}
 use Rattle.std.specs.Prelude.{Err}
 use Rattle.s800_reader.specs.Groups.{groups_in}
-
--- a row, field by field
-pub picked_row : (head w : ℕ) {k v d c : ℕ} → k ≡ cond (leb (2 ^ 15) w) 8 12 → v ≡ cond (leb (2 ^ 15) w) w head → d ≡ cond (leb (2 ^ 15) w) 0 w → c ≡ pad (v % 64) (d / 1024)
-    → row k (v / 64 % 512) c (d % 1024) ≡ word_row head w
-unfolding word_row
-picked_row head w k v d c = rw (c, k, v, d) (go (leb (2 ^ 15) w) refl)
-  where
-    go : (b : Bool) → leb (2 ^ 15) w ≡ b → row (cond b 8 12) (cond b w head / 64 % 512) (pad (cond b w head % 64) (cond b 0 w / 1024)) (cond b 0 w % 1024) ≡ word_row head w
-    go true e = let z : w % 64 + 64 * 0 ≡ w % 64 = omega arith in rw (e, z)
-    go false e = rw e
-
-pub picked_small : (w : ℕ) {d : ℕ} → d ≡ cond (leb (2 ^ 15) w) 0 w → d ≤ w
-picked_small w {d} e = go (leb (2 ^ 15) w) e
-  where
-    go : (b : Bool) → d ≡ cond b 0 w → d ≤ w
-    go true e = omega arith
-    go false e = omega arith
 
 pub picked_below : {w head v bound : ℕ} → v ≡ cond (leb (2 ^ 15) w) w head → w < bound → head < bound → v < bound
 picked_below {w} {head} {v} {bound} e a b = go (leb (2 ^ 15) w) e

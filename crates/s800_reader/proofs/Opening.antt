@@ -3,7 +3,6 @@
 use Prim.Native.Nat.{ℕ, ◌+◌, ◌^◌, ◌≤◌, ◌<◌}
 use native.Mathlib.Omega.{arith}
 use mathlib.Core.Path.{◌≡◌, refl, ap, sym}
-use mathlib.Core.Bool.{false}
 use mathlib.Core.List.{List, [], ◌∷◌, ◌++◌, map}
 use lib.ListN.{length}
 use lib.Seq.{slice, slice_empty}
@@ -14,7 +13,7 @@ use Rattle.event.proofs.Elements.{each_map}
 use Rattle.event.proofs.Leads.{leads_part, leads_done, refused_as}
 use Rattle.s800_layout.specs.Event.{Datum, Form, Content, ChannelFormat, energy16}
 use Rattle.s800_layout.specs.Layout.{datum_row, packet_rows}
-use Rattle.s800_layout.specs.Reading.{allowed_length, channel_words}
+use Rattle.s800_layout.specs.Reading.{channel_words}
 use Rattle.s800_format.specs.declared.Format.{Format}
 use Rattle.s800_format.specs.Format.{format_of, energies_of}
 use Rattle.s800_reader.specs.declared.packet.Packet.{Packet}
@@ -32,10 +31,6 @@ packet_at p = record { two = p.two; inside = p.inside; few = p.few }
 pub opens_refused : (f : Form) {ws : List ℕ} {start n k : ℕ} {b after : List ℕ} {r : OpenAnswer} {m p : ℕ} → r ≡ Err (refusal m p) → rest_of f ws start n ≡ refuse m p
     → OpensAs f ws start n k b after r
 opens_refused f {m = m} {p = p} e h = rw e (record { opens = refused_as {n = m} {p = p} h })
-
-pub wrong_length : (f : Form) {ws : List ℕ} {start n k : ℕ} {b after : List ℕ} {r : OpenAnswer} → allowed_length f n ≡ false → r ≡ Err (refusal 7 start)
-    → OpensAs f ws start n k b after r
-wrong_length f {start = start} h e = opens_refused f {m = 7} {p = start} e (rw h)
 
 -- the rows `before` are stored, and channel words are left
 pub opens_channels : (f : Form) {ws : List ℕ} {start n k : ℕ} {b after : List ℕ} (before : List Row) (m : Format) {q : ChannelFormat} (g : List Datum → Content f) {at : ℕ}

@@ -19,7 +19,7 @@ use Rattle.s800_layout.specs.Reading.{allowed_length, content, packet_content, f
 use Rattle.s800_layout.proofs.Lengths.{form_back}
 use Rattle.s800_layout.proofs.Refusals.{content_ends}
 use Rattle.s800_reader.specs.Opening.{rest_of, OpensAs, OpensPacket}
-use Rattle.s800_reader.proofs.Extent.{too_short, too_long, body}
+use Rattle.s800_reader.proofs.Extent.{body}
 use Rattle.event.specs.Refusal.{refusal}
 use Rattle.std.specs.Prelude.{Ok, Err}
 use Rattle.s800_reader.specs.Opening.{OpenAnswer}
@@ -42,13 +42,7 @@ rest_ends f ws start n long two q j r e = go (allowed_length f n) refl e
     go false a h = impossible cc
 
 module _ (ws : List ℕ) (start : ℕ) {n : ℕ} (below : start < length ws) (d₀ : n ≡ get_or ws start 0) where
-  pub packet_short : {k : ℕ} {b after : List ℕ} {r : OpenAnswer} → n < 2 → r ≡ Err (refusal 5 start) → OpensPacket ws start k b after r
-  packet_short h q = rw q (record { opens = refused_as {n = 5} {p = start} (too_short form_word allowed_length packet_content ws start below d₀ h); ends = tt })
-
   module _ (two : 2 ≤ n) where
-    pub packet_long : {k : ℕ} {b after : List ℕ} {r : OpenAnswer} → length ws - start < n → r ≡ Err (refusal 5 start) → OpensPacket ws start k b after r
-    packet_long h q = rw q (record { opens = refused_as {n = 5} {p = start} (too_long form_word allowed_length packet_content ws start below d₀ two h); ends = tt })
-
     module _ (inside : n ≤ length ws - start) {t : ℕ} (d : t ≡ get_or ws (start + 1) 0) where
       pub packet_unknown : {k : ℕ} {b after : List ℕ} {r : OpenAnswer} → eqb t (tag (form_of t)) ≡ false → r ≡ Err (refusal 6 (start + 1)) → OpensPacket ws start k b after r
       packet_unknown z q = rw q (record { opens = refused_as {n = 6} {p = start + 1} (body form_word allowed_length packet_content ws start below d₀ two inside d ∙ rw z); ends = tt })

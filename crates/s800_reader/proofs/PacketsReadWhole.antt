@@ -4,12 +4,11 @@ use Prim.Native.Nat.{ℕ, suc, ◌+◌, ◌-◌, ◌%◌, ◌^◌, ◌≤◌, �
 use native.Mathlib.Nat.{le_refl}
 use native.Mathlib.Omega.{arith}
 use mathlib.Core.Path.{◌≡◌, refl, ap, sym, ◌∙◌}
-use mathlib.Core.Bool.{Bool, true, false, ◌&&◌}
+use mathlib.Core.Bool.{true}
 use mathlib.Core.List.{List, [], ◌∷◌, ◌++◌}
-use lib.Dec.{eqb, leb}
 use lib.ListN.{length, get_or}
-use lib.Seq.{slice, slice_empty}
-use borrow.Author.Tests.{eq-eqb, ne_eqb, le-leb, lt-leb}
+use lib.Seq.{slice}
+use borrow.Author.Tests.{eq-eqb, le-leb}
 use Rattle.event.specs.Parser.{Result, ok, refuse, Parser, then, ◌>>=◌, give, ended, filled, many, several, each, alone}
 use Rattle.event.specs.Rows.{row, store_row}
 use Rattle.event.specs.Scanning.{store_rows, RefusedAs, Scanned, Leads}
@@ -22,7 +21,7 @@ use Rattle.s800_format.specs.Format.{energies_of}
 use Rattle.event.specs.declared.refusal.Refusal.{Refusal}
 use Rattle.s800_layout.specs.Event.{energy16, Group, Samples, Crdc, Opaque, Form, scintillator, crdc, opaque, Packet, samples_tag, anode_tag, tag}
 use Rattle.s800_layout.specs.Layout.{pair_rows, pair_channels, group_rows, packet_row, packet_rows}
-use Rattle.s800_layout.specs.Reading.{even, allowed_length, inner, whole, pair, group, samples, anode}
+use Rattle.s800_layout.specs.Reading.{allowed_length, inner, whole, pair, group, samples, anode}
 use Rattle.s800_layout.proofs.Words.{codes_groups}
 use Rattle.s800_reader.specs.Channel.{opaque_rows, anode_rows, NoMore}
 use Rattle.s800_reader.specs.Opening.{PacketAt, CrdcFront, crdc_front_rows, rest_of, OpensAs}
@@ -48,21 +47,6 @@ opens_answer : (f : Form) {ws : List ℕ} {start n k : ℕ} {b after : List ℕ}
     → NoMore (start + n) a → OpenedWhole (start + n) a r → OpensAs f ws start n k b after r
 opens_answer f (Ok k') s few e = opens_complete f s few e
 opens_answer f (Err r) s few e = rw e (opens_failed f s)
-
-odd : (n : ℕ) → n % 2 ≡ 1 → eqb (n % 2) 0 ≡ false
-odd n h = ne_eqb (n % 2) 0 (λ e. omega arith)
-
--- pairs
-pub odd_scintillator : (n : ℕ) → n % 2 ≡ 1 → allowed_length scintillator n ≡ false
-odd_scintillator n h = rw (odd n h)
-
-pub long_scintillator : (n : ℕ) → 14 < n → allowed_length scintillator n ≡ false
-long_scintillator n h = go (even n) (leb 2 n)
-  where
-    go : (a b : Bool) → a && (b && leb n 14) ≡ false
-    go true true = lt-leb n 14 h
-    go true false = refl
-    go false b = refl
 
 module _ {ws : List ℕ} {start n k : ℕ} (s : PacketAt ws start n k) where
   pub scintillator_opens : {b b₁ after : List ℕ} (a : Answer) {r : OpenAnswer} → (n % 2 ≡ 1 → ⊥) → n ≤ 14 → b₁ ≡ store_rows b k (packet_row (tag scintillator) 0 ∷ [])
@@ -91,28 +75,9 @@ module _ (ws : List ℕ) (i k : ℕ) (b : List ℕ) (long : i + 4 ≤ length ws)
   abbrev AnodeScanned : Answer → List ℕ → Type 0
   AnodeScanned = Scanned anode_rows (inner 4 anode_tag anode i (slice i (i + 4) ws)) k b
 
-  pub anode_length : {a : Answer} (after : List ℕ) → (v ≡ 4 → ⊥) → a ≡ Err (refusal 9 i) → AnodeScanned a after × NoMore (i + 4) a
-  anode_length after z q = rw q (scanned_refuse anode_rows {n = 9} {p = i} k b after (inner_length 4 anode_tag anode i (i + 4) ws (omega arith) (omega arith) long e z), tt)
-
   module _ (l : v ≡ 4) {w : ℕ} (d : w ≡ get_or ws (i + 1) 0) where
     pub anode_tag_lem : {a : Answer} (after : List ℕ) → (w ≡ anode_tag → ⊥) → a ≡ Err (refusal 9 (i + 1)) → AnodeScanned a after × NoMore (i + 4) a
     anode_tag_lem after z q = rw q (scanned_refuse anode_rows {n = 9} {p = i + 1} k b after (inner_tag 4 anode_tag anode i (i + 4) ws (omega arith) (omega arith) long e l d z), tt)
-
-    pub anode_read : {x y : ℕ} {after : List ℕ} → w ≡ anode_tag → x ≡ get_or ws (i + 2) 0 → x < 2 ^ 16 → y ≡ get_or ws (i + 3) 0 → y < 2 ^ 16
-        → k ≤ i → after ≡ store_rows b k (row 9 0 x y ∷ []) → AnodeScanned (Ok (k + 1)) after × NoMore (i + 4) (Ok (k + 1))
-    anode_read {x} {y} {after} z p f q g few s =
-        let next : i + 2 + 1 ≡ i + 3 = omega arith in
-        let end : i + 3 + 1 ≡ i + 4 = omega arith in
-        let none = slice_empty (i + 4) ws in
-        let first : whole (i + 2) (slice (i + 2) (i + 4) ws) ≡ ok x (i + 3) (slice (i + 3) (i + 4) ws) = rw (p, ← next) (read_whole ws (i + 2) (i + 4) (omega arith) long (rw p at f)) in
-        let second : whole (i + 3) (slice (i + 3) (i + 4) ws) ≡ ok y (i + 4) [] = read_whole ws (i + 3) (i + 4) (omega arith) long (rw q at g) ∙ rw (end, none, q) in
-        let r : inner 4 anode_tag anode i (slice i (i + 4) ws) ≡ ok (record { energy = x; time = y }) (i + 4) []
-        = inner_read 4 anode_tag anode i (i + 4) ws (omega arith) (omega arith) long e l d z ∙ rw (first, second, none) in
-        (rw r (record { answered = refl; stored = s }), omega arith)
-
--- a CRDC's packet up to its threshold
-pub short_crdc : (n : ℕ) → n < 10 → allowed_length crdc n ≡ false
-short_crdc n h = lt-leb 10 n h
 
 abbrev packed : Result ℕ Crdc → Result ℕ Packet
 packed x = then (λ c. give (record { form = crdc; content = c })) x
@@ -124,11 +89,6 @@ after_samples id xs = inner 4 anode_tag anode >>= λ a. give (record { id = id; 
 abbrev samples_from : List ℕ → (start n : ℕ) → Result ℕ (List Group)
 samples_from ws start n = several group ended (start + 6) (slice (start + 6) (start + n - 4) ws)
 
--- the rows up to the threshold, stored one after the other
-pub front_stored : (ws : List ℕ) (start k : ℕ) (b : List ℕ) {id threshold : ℕ} {b₁ b₂ : List ℕ} → b₁ ≡ store_row b k (packet_row (tag crdc) id) → b₂ ≡ store_row b₁ (k + 1) (row 7 0 0 threshold)
-    → id ≡ get_or ws (start + 2) 0 → threshold ≡ get_or ws (start + 5) 0 → b₂ ≡ store_rows b k (crdc_front_rows ws start)
-front_stored ws start k b p t i d = t ∙ rw (p, i, d)
-
 -- the packet from its threshold on
 abbrev after_front : List ℕ → (start n id : ℕ) → Result ℕ Packet
 after_front ws start n id =
@@ -137,9 +97,6 @@ after_front ws start n id =
 module _ {ws : List ℕ} {start n k : ℕ} (s : PacketAt ws start n k) (least : 10 ≤ n) {id : ℕ} (a : id ≡ get_or ws (start + 2) 0) where
   allowed : allowed_length crdc n ≡ true
   allowed = le-leb 10 n least
-
-  pub crdc_id : {b after : List ℕ} {r : OpenAnswer} → 1 < id → r ≡ Err (refusal 8 (start + 2)) → OpensAs crdc ws start n k b after r
-  crdc_id h q = opens_refused crdc {m = 8} {p = start + 2} q (rw (allowed, first_word s (omega arith) a, eq-eqb id id refl, lt-leb id 1 h))
 
   module _ (i : id ≤ 1) {v : ℕ} (c : v ≡ get_or ws (start + 3) 0) where
     abbrev samples_part : Result ℕ Samples

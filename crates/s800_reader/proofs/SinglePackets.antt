@@ -8,7 +8,7 @@ use mathlib.Core.List.{List, [], ◌∷◌, ◌++◌}
 use lib.Dec.{eqb}
 use lib.ListN.{length, get_or}
 use lib.Seq.{slice, slice_empty}
-use borrow.Author.Tests.{eq-eqb, ne_eqb, lt-ltb}
+use borrow.Author.Tests.{eq-eqb, lt-ltb}
 use Rattle.event.specs.declared.Row.{Row}
 use Rattle.event.specs.Parser.{Result, ok, refuse, Test, test, judge, then, give, each}
 use Rattle.event.specs.Rows.{row}
@@ -23,17 +23,13 @@ use Rattle.s800_format.specs.declared.Format.{Format}
 use Rattle.s800_format.specs.Format.{format_of, energies_of}
 use Rattle.s800_reader.specs.Channel.{channel_rows}
 use Rattle.s800_reader.specs.Opening.{PacketAt, HodoscopeHits, rest_of, OpensAs}
-use Rattle.s800_reader.proofs.Opening.{opens_refused, opens_complete}
+use Rattle.s800_reader.proofs.Opening.{opens_complete}
 use Rattle.s800_format.proofs.Formats.{energies_format}
 use Rattle.s800_reader.proofs.ChannelPackets.{first_word}
-use Rattle.event.specs.Refusal.{refusal}
-use Rattle.std.specs.Prelude.{Ok, Err}
+use Rattle.std.specs.Prelude.{Ok}
 use Rattle.s800_reader.specs.Opening.{OpenAnswer, channels_left}
 
 module _ {ws : List ℕ} {start n k : ℕ} (s : PacketAt ws start n k) (h : HodoscopeHits ws start n) where
-  pub hits_length : {b after : List ℕ} {r : OpenAnswer} → (n ≡ 6 → ⊥) → r ≡ Err (refusal 7 start) → OpensAs hodoscope ws start n k b after r
-  hits_length z q = opens_refused hodoscope {m = 7} {p = start} q (rw (is_between 3 19 n h.least h.most, first_word s h.least (sym h.id), ne_eqb n 6 z))
-
   module _ (six : n ≡ 6) {u v w : ℕ} (a : u ≡ get_or ws (start + 3) 0) (b : v ≡ get_or ws (start + 4) 0) (c : w ≡ get_or ws (start + 5) 0)
       (fa : u < 2 ^ 16) (fb : v < 2 ^ 16) (fc : w < 2 ^ 16) where
     six_on : suc (suc (suc (suc (start + 2)))) ≡ start + 6

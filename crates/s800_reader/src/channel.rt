@@ -40,6 +40,7 @@ fn value_of(format: Format, w: u32) -> u32
 }
 
 // A channel word at a place. One set is tested for a good word: the channels that are not allowed, and those seen.
+#[tactic(auto, using(crate::proofs::Channels::low_bit), unfolding(crate::specs::Channel::fault_of))]
 pub(crate) fn check_channel(
     format: Format,
     blocked: u32,

@@ -61,6 +61,7 @@ fn groups_hold(samples: Samples) -> bool
 }
 
 // Whether word `w` may follow the one before it.
+#[tactic(auto, unfolding(crate::specs::Groups::follows))]
 fn follow(before: u32, w: u32) -> bool
     ensures { result ≡ follows before w }
 {
@@ -109,6 +110,7 @@ fn store_groups(samples: Samples, rows: &mut [u32], first: usize)
 }
 
 // Bit 15 set, sample in bits 14-6, channel in bits 5-0; or, under such a head, connector in bits 11-10, energy in bits 9-0.
+#[tactic(auto, unfolding(crate::specs::Groups::word_row))]
 fn word_row(head: u32, w: u32) -> Row
     requires { (head < 65536) × (w < 65536) }
     ensures { result ≡ word_row head w }
