@@ -6,18 +6,11 @@ ghost use Rattle.event.specs.declared.StampOrder.TheVariants.{Crossed};
 ghost use Rattle.list_input.specs.Turns.{ListedByTurns};
 
 use event::StampOrder;
-use list_input::{
-    BUFFER, Buffers, Ended, LineBuffers, MOST_ELEMENTS, MOST_LONGWORDS, MOST_WORDS,
-};
+use list_input::{BUFFER, Buffers, Ended, LineBuffers, MOST_ELEMENTS, MOST_LONGWORDS, MOST_WORDS};
 use std::io::{Stdin, Stdout};
 
 // Lists in the crossed stamp order.
-fn list(
-    stdin: Stdin,
-    stdout: Stdout,
-    order: StampOrder,
-    buffers: &mut Buffers,
-) -> Ended
+fn list(stdin: Stdin, stdout: Stdout, order: StampOrder, buffers: &mut Buffers) -> Ended
     requires { order ≡ Crossed }
     ensures { (result.order ≡ Crossed) × ListedByTurns Crossed result.whole (take result.put buffers.new.text) }
 {

@@ -6,18 +6,11 @@ ghost use Rattle.event.specs.Outcome.{default_order};
 ghost use Rattle.list_input.specs.Turns.{ListedByTurns};
 
 use event::StampOrder;
-use list_input::{
-    BUFFER, Buffers, Ended, LineBuffers, MOST_ELEMENTS, MOST_LONGWORDS, MOST_WORDS,
-};
+use list_input::{BUFFER, Buffers, Ended, LineBuffers, MOST_ELEMENTS, MOST_LONGWORDS, MOST_WORDS};
 use std::io::{Stdin, Stdout};
 
 // Lists in the default stamp order: no order is given to this program.
-fn list(
-    stdin: Stdin,
-    stdout: Stdout,
-    order: StampOrder,
-    buffers: &mut Buffers,
-) -> Ended
+fn list(stdin: Stdin, stdout: Stdout, order: StampOrder, buffers: &mut Buffers) -> Ended
     requires { order ≡ default_order }
     ensures { (result.order ≡ default_order) × ListedByTurns default_order result.whole (take result.put buffers.new.text) }
 {
