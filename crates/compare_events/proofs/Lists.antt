@@ -4,7 +4,7 @@ use Prim.Native.Nat.{ℕ, ◌+◌, ◌*◌, ◌/◌, ◌<◌}
 use native.Mathlib.Nat.{mul-suc, add-div_left}
 use native.Mathlib.Numerals.{add-one}
 use native.Mathlib.Omega.{arith}
-use mathlib.Core.Path.{◌≡◌, refl, sym, ap, ◌∙◌}
+use mathlib.Core.Path.{◌≡◌, sym, ap, ◌∙◌}
 use mathlib.Core.List.{List, [], ◌∷◌, ◌++◌, append_assoc, append-nil}
 use lib.ListN.{length, take, drop, length-append}
 use lib.Seq.{take_at}
@@ -12,7 +12,7 @@ use Rattle.std.proofs.lemmas.List.{drop_at}
 use Rattle.event.specs.Parser.{each}
 use Rattle.event.proofs.Elements.{each_append}
 use Rattle.hex_line.specs.Text.{Placed}
-use Rattle.hex_line.proofs.TextLaws.{placed_none, placed_then}
+use Rattle.hex_line.proofs.TextLaws.{placed_then}
 use Rattle.comparison.specs.Differences.{Difference, entry, entries}
 
 -- entries of w numbers each

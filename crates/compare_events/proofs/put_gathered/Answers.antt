@@ -1,11 +1,6 @@
 -- `put_gathered` meets its contract. Assumes nothing.
-use mathlib.Core.Path.{sym}
-use lib.Seq.{length-take-le}
 use Rattle.compare_events.proofs.Enough.{print_gathered}
 use Rattle.compare_events.proofs.put_gathered.Goals as goal
-
-pub slice_bounds-put_print-end : goal.slice_bounds-put_print-end
-slice_bounds-put_print-end c = sym (length-take-le _ _ c.requires.inside.0.ends)
 
 pub returns : goal.returns
 returns c =

@@ -4,14 +4,8 @@ use native.Mathlib.Omega.{arith}
 use mathlib.Core.Path.{sym}
 use lib.Seq.{length-take-le}
 use Rattle.listing.proofs.InputLaws.{first_within}
-use Rattle.compare_events.proofs.InputLines.{start_within, end_within, print_there}
+use Rattle.compare_events.proofs.InputLines.{end_within, print_there}
 use Rattle.compare_events.proofs.lines.put_print.Goals as goal
-
-pub slice_bounds-first_line-count : goal.slice_bounds-first_line-count
-slice_bounds-first_line-count c = le_trans (le_of_eq c.second_start-from.ensures) (start_within c.first_line-count.result _)
-
-pub slice_bounds-first_line-start : goal.slice_bounds-first_line-start
-slice_bounds-first_line-start c = omega (arith, le_trans (le_of_eq c.second_start-from.ensures) (start_within c.first_line-count.result _))
 
 pub overflow_add-end : goal.overflow_add-end
 overflow_add-end c = omega (arith, end_within c.args.input.now c.first_line-count.ensures c.second_start-from.ensures c.first_line.ensures)
