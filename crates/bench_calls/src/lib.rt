@@ -14,7 +14,13 @@ pub fn bench_read(dialect: u32, words: &[u16], longwords: &[u32], rows: &mut [u3
     ensures answer { result ≡ count_or_place (answer_of (reading_into (dialect_of dialect) (room (length rows.old)) default_order (of_width (dialect_of dialect) words.now longwords.now))) }
     ensures rows { rows.new ≡ overlaid (flat (given (reading_into (dialect_of dialect) (room (length rows.old)) default_order (of_width (dialect_of dialect) words.now longwords.now)))) rows.old }
 {
-    let read = any_dialect::read(Dialect::from(dialect), words, longwords, StampOrder::default(), rows);
+    let read = any_dialect::read(
+        Dialect::from(dialect),
+        words,
+        longwords,
+        StampOrder::default(),
+        rows,
+    );
     count_or_place(read)
 }
 
@@ -23,6 +29,12 @@ pub fn bench_write(dialect: u32, rows: &[u32], words: &mut [u16], longwords: &mu
     ensures words { words.new ≡ over16 (dialect_of dialect) (given (writing_into (dialect_of dialect) (length (of_width (dialect_of dialect) words.old longwords.old)) default_order rows.now)) words.old }
     ensures longwords { longwords.new ≡ over32 (dialect_of dialect) (given (writing_into (dialect_of dialect) (length (of_width (dialect_of dialect) words.old longwords.old)) default_order rows.now)) longwords.old }
 {
-    let written = any_dialect::write(Dialect::from(dialect), rows, StampOrder::default(), words, longwords);
+    let written = any_dialect::write(
+        Dialect::from(dialect),
+        rows,
+        StampOrder::default(),
+        words,
+        longwords,
+    );
     count_or_place(written)
 }

@@ -9,9 +9,9 @@ ghost use Rattle.dialects.specs.Dialects.{reading_into, writing_into, of_width, 
 ghost use Rattle.round_trips.specs.RoundTrips.{back_words, back_rows};
 
 use dialects::Dialect;
-use event::words::part_start;
 use event::StampOrder;
 use event::refusal::Refusal;
+use event::words::part_start;
 
 // Reads the words into `rows`, and writes the rows read into `back` or `long_back`: the words again.
 pub fn words_back(
