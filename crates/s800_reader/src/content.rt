@@ -19,6 +19,7 @@ use s800_format::pair_energies;
 pub(crate) fn read_opaque(packet: Packet, rows: &mut [u32]) -> usize
     ensures { (result ≤ packet.entry.start + packet.entry.size) × Scanned (each opaque_rows) (opaques_of packet.entry) (packet.entry.count + 1) rows.old (Ok result) rows.new }
 {
+    // Counted, since with the row's place made from k reading opaque words took up to twice the time.
     let mut count = packet.count + 1;
     for k in 2..packet.size {
         let row = Row {
