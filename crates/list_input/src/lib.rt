@@ -60,7 +60,7 @@ struct Turn {
 }
 
 // How a listing ended: its stamp order, how many characters of the text were put last, and whether all of the listing was put and written; it was not where a read
-// or a write failed. Its fields are private, so that no other crate can make one: whoever has it has called `list`.
+// or a write failed. Its fields are private, so that no other crate can make one: whoever has it has called `list`. (`whole` stays a flag: `ListedByTurns` speaks of it.)
 #[derive(Clone, Copy)]
 pub struct Ended {
     order: StampOrder,
