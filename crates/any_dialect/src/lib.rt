@@ -1,5 +1,6 @@
 // Reading and writing by dialect (document 01): the one place that chooses a reader or a writer. Words of 16 bits stand in `words`, those of 32 bits in `longwords`;
-// the buffer of the other width is neither read nor written.
+// the buffer of the other width is neither read nor written. The two stay two arguments: the calls from C lend both, and the callers
+// in Rattle have one of them empty.
 #![tactic(auto)]
 
 ghost use Rattle.std.specs.Prelude.{◌≡◌, length};
