@@ -4,12 +4,13 @@ use Prim.Native.Nat.{ℕ}
 use mathlib.Core.Path.{◌≡◌, refl}
 use mathlib.Core.List.{List, [], ◌∷◌, ◌++◌}
 use lib.ListN.{replicate}
-use Rattle.event.specs.declared.Answer.TheVariants.{Refused}
 use Rattle.event.specs.declared.Row.{Row}
 use Rattle.event.specs.Rows.{row}
 use Rattle.event.proofs.Vectors.{Vector, AsExpected, rising_rows, write_into, RoomCase, case}
 use Rattle.rcnp_layout.specs.Writing.{writing}
 use Rattle.rcnp_layout.proofs.EdgesOfWriting.{ok, no}
+use Rattle.event.specs.Refusal.{refusal}
+use Rattle.std.specs.Prelude.{Err}
 
 -- rows of 4,097 words, with this word of the check sum. (0x3ffe + 4,094 × 1 + 0xf001 + 0xc003 = 0x20000.)
 abbrev large : (sum : ℕ) → List Row
@@ -34,7 +35,7 @@ sizes = refl
 
 -- 24 comes after 23
 abbrev crowded : RoomCase
-crowded = case too_large.input [] (Refused 23 4097) []
+crowded = case too_large.input [] (Err (refusal 23 4097)) []
 
 pub room : write_into writing crowded.lent ≡ crowded.left
 room = refl

@@ -4,7 +4,6 @@ use Prim.Native.Nat.{ℕ}
 use mathlib.Core.Path.{◌≡◌, refl}
 use mathlib.Core.List.{List, [], ◌∷◌, ◌++◌, map}
 use lib.ListN.{replicate}
-use Rattle.event.specs.declared.Answer.TheVariants.{Refused}
 use Rattle.event.specs.declared.Row.{Row}
 use Rattle.event.specs.declared.StampOrder.TheVariants.{Crossed}
 use Rattle.event.specs.Parser.{each}
@@ -12,6 +11,8 @@ use Rattle.event.specs.Rows.{row}
 use Rattle.event.proofs.Vectors.{write_into, RoomCase, case}
 use Rattle.s800_layout.specs.Writing.{writing}
 use Rattle.s800_layout.proofs.EdgesOfWriting.{Vector, ok, no}
+use Rattle.event.specs.Refusal.{refusal}
+use Rattle.std.specs.Prelude.{Err}
 
 -- n groups of one data word, as rows; and the rows of a packet 0x5840 with its groups
 abbrev group_rows : ℕ → List Row
@@ -42,7 +43,7 @@ sizes = refl
 
 -- 24 comes after 23
 abbrev crowded : RoomCase
-crowded = case too_large.elements [] (Refused 23 4097) []
+crowded = case too_large.elements [] (Err (refusal 23 4097)) []
 
 pub room : write_into (writing Crossed) crowded.lent ≡ crowded.left
 room = refl
