@@ -1,5 +1,6 @@
 // Standard input and output of a run.
-ghost use Rattle.std.specs.Prelude.{◌+◌, ◌-◌, ◌<◌, ◌≤◌, ◌≡◌, true, false, eqb, length, take};
+ghost use Rattle.std.specs.Prelude.{◌+◌, ◌-◌, ◌<◌, ◌≤◌, ◌≡◌, true, false, eqb, length, take, unwrap_or, Err};
+ghost use Rattle.std.specs.Option.{is_none};
 ghost use Rattle.list_input.specs.Run.{Inside, anew, rest_of, is_over, turn_of, failed, point_of, Fed};
 ghost use Rattle.list_input.specs.Turns.{SomeTurn};
 ghost use Rattle.list_input.specs.declared.lines.Stop.TheVariants.{More};
@@ -29,14 +30,11 @@ pub(crate) fn turn(
         &mut buffers.text,
         without_text(state.run),
     );
-    if stdout.write_all(&buffers.text[..put.run.at]).is_err() {
-        return Err(Turn {
-            run: put.run,
-            ended: state.ended,
-            over: is_over(put.stop),
-        });
+    let written = stdout.write_all(&buffers.text[..put.run.at]).is_ok();
+    if !written {
+        return stopped(put, state.ended, written);
     }
-    go_on(stdin, &mut buffers.input, put, state.ended)
+    go_on(stdin, &mut buffers.input, put, state.ended, written)
 }
 
 // The run before its next text is put.
@@ -52,11 +50,25 @@ fn is_over(stop: Stop) -> bool
     matches!(stop, Stop::Over)
 }
 
+// The turn at which a text was not written.
+fn stopped(put: Put, ended: bool, written: bool) -> Result<Turn, Turn>
+    requires { written ≡ false }
+    ensures { result ≡ Err (record { run = put.run; ended = ended; over = is_over put.stop }) }
+{
+    Err(Turn {
+        run: put.run,
+        ended,
+        over: is_over(put.stop),
+    })
+}
+
 // Goes on with the next line, reads more of the input, or ends where all is put. What was put is written.
-fn go_on(stdin: Stdin, input: &mut [u8], put: Put, ended: bool) -> Result<Turn, Turn>
+fn go_on(stdin: Stdin, input: &mut [u8], put: Put, ended: bool, written: bool) -> Result<Turn, Turn>
+    requires written_value { written ≡ true }
     requires from_le_end { (put.run.from ≤ put.run.end) × (put.run.end ≤ length input.old) }
     requires ended_value { put.stop ≡ More → (ended ≡ false) × (put.run.end - put.run.from < length input.old) }
     ensures fed { Fed put ended input.old (turn_of result) (failed result) input.new }
+    ensures failed_value { (put.stop ≡ More → ⊥) → failed result ≡ false }
 {
     let run = put.run;
     match put.stop {
@@ -85,18 +97,18 @@ fn refill(mut stdin: Stdin, input: &mut [u8], run: Run) -> Result<Turn, Turn>
 {
     let rest = run.end - run.from;
     input.copy_within(run.from..run.end, 0);
-    match stdin.read(&mut input[rest..]) {
-        Ok(count) => Ok(after_read(run, count)),
-        Err(_) => Err(after_read(run, 0)),
-    }
+    let got = stdin.read(&mut input[rest..]).ok();
+    after_read(run, got)
 }
 
-// The run after a read of so many characters behind those that are not listed yet: at the end of the input there were none.
-fn after_read(run: Run, count: usize) -> Turn
-    requires { (run.from ≤ run.end) × (run.end - run.from + count < 18446744073709551616) }
-    ensures { result ≡ record { run = record { from = 0; end = run.end - run.from + count; at = run.at; accepted = run.accepted; refused = run.refused }; ended = eqb count 0; over = false } }
+// The run after a read of so many characters behind those that are not listed yet, none of them at the end of the input. A read that failed ends the run.
+fn after_read(run: Run, got: Option<usize>) -> Result<Turn, Turn>
+    requires { (run.from ≤ run.end) × (run.end - run.from + unwrap_or got 0 < 18446744073709551616) }
+    ensures turn { turn_of result ≡ record { run = record { from = 0; end = run.end - run.from + unwrap_or got 0; at = run.at; accepted = run.accepted; refused = run.refused }; ended = eqb (unwrap_or got 0) 0; over = false } }
+    ensures failed { failed result ≡ is_none got }
 {
-    Turn {
+    let count = got.unwrap_or(0);
+    let next = Turn {
         run: Run {
             from: 0,
             end: run.end - run.from + count,
@@ -104,5 +116,9 @@ fn after_read(run: Run, count: usize) -> Turn
         },
         ended: count == 0,
         over: false,
+    };
+    match got {
+        Some(_) => Ok(next),
+        None => Err(next),
     }
 }

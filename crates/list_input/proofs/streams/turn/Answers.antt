@@ -10,7 +10,7 @@ use Rattle.listing.specs.Lengths.{most_text, last_length}
 use Rattle.list_input.specs.declared.lines.Put.{Put}
 use Rattle.list_input.specs.declared.Run.{Run}
 use Rattle.list_input.specs.declared.Turn.{Turn}
-use Rattle.list_input.specs.Run.{Inside, anew, point_of, MorePut, Halts, Fed}
+use Rattle.list_input.specs.Run.{Inside, anew, is_over, point_of, MorePut, Halts, Fed}
 use Rattle.list_input.specs.Turns.{SomeTurn}
 use Rattle.list_input.proofs.Turns.{turned}
 use Rattle.list_input.proofs.streams.turn.Goals as goal
@@ -23,14 +23,14 @@ by_fed : (o : StampOrder) (state : Turn) (put : Put) (state' : Turn) (bad : Bool
 by_fed o state put state' bad input text text' input' run f taken from kept room i h m =
     turned o state put state' bad input text text' input' f taken (rw from at m) (rw kept h) (rw kept room) (rw kept i.text)
 
-pub returns-then-is_err-clause-some_turn : goal.returns-then-is_err-clause-some_turn
-returns-then-is_err-clause-some_turn c =
+pub returns-then-not-written-clause-some_turn : goal.returns-then-not-written-clause-some_turn
+returns-then-not-written-clause-some_turn c =
     let l = c.list_more-put in
     let p = l.result in
     let i = l.ensures.inside_2 in
     let b = c.args.buffers.now in
-    let state' : Turn = record { run = p.run; ended = c.args.state.ended; over = c.is_over.result } in
-    by_fed c.args.order c.args.state p state' true b.input b.text l.new.text b.input _ (record {
+    let state' : Turn = record { run = p.run; ended = c.args.state.ended; over = is_over p.stop } in
+    rw c.stopped.ensures (by_fed c.args.order c.args.state p state' true b.input b.text l.new.text b.input _ (record {
       piece = [];
       found = λ _. refl;
       stays = λ _. (refl, refl);
@@ -42,8 +42,8 @@ returns-then-is_err-clause-some_turn c =
       at = refl;
       accepted = refl;
       refused = refl;
-      over = c.is_over.ensures;
-    }) c.requires.inside.1 c.without_text.ensures l.auto.text (omega arith) i l.ensures.halts l.ensures.more_put
+      over = refl;
+    }) c.requires.inside.1 c.without_text.ensures l.auto.text (omega arith) i l.ensures.halts l.ensures.more_put)
 
 pub returns-clause-some_turn : goal.returns-clause-some_turn
 returns-clause-some_turn c =
