@@ -17,7 +17,9 @@ use event::rows::row_at;
 use event::words::store_word;
 use event::{Part, Row};
 
-// A good head is neither the anode's row nor past the last one, so the end is looked for only where a row is no good head.
+// A good head is neither the anode's row nor past the last one, so the end is looked for only where a row is no good head. (Not inlined: in the whole writer, which
+// is one function once compiled, the loops would keep their index in memory.)
+#[inline(never)]
 pub(crate) fn write_samples(run: Run, words: &mut [u16]) -> Result<Part, Refusal>
     ensures { Writes 16 (each group_words) (several group (at_kind 9) run.entry.from (drop run.entry.from (rows_in run.entry.rows.now))) (rows_in run.entry.rows.now) run.entry.first words.old result words.new }
 {
