@@ -58,7 +58,8 @@ fn check_bytes(bytes: &[u8], order: StampOrder) -> Result<usize, Refusal>
     check_in(bytes, order, &mut words)
 }
 
-// Checks the words of the bytes, stored in `words`.
+// Checks the words of the bytes, stored in `words`. (Inlined, so that the compiler sees an array's own size where its words are cleared and the bytes are copied.)
+#[inline(always)]
 fn check_in(bytes: &[u8], order: StampOrder, words: &mut [u16]) -> Result<usize, Refusal>
     requires { length bytes.now / 2 ≤ length words.old }
     ensures { result ≡ answer_of (reading order (words_of bytes.now)) }
