@@ -1,6 +1,6 @@
 -- The tags of the code, as numbers.
 -- Assumes nothing.
-use Rattle.std.specs.Prelude.{ℕ, ◌≡◌, ◌≢◌, Option, Some, None}
+use Rattle.std.specs.Prelude.{ℕ, cond, eqb, List, [], ◌∷◌, Option, Some, None}
 use Rattle.s800_layout.specs.Event.{trigger, time_of_flight, scintillator, ion_chamber, crdc, hodoscope, object_pin, vme_adc, opaque, focal_plane_time, intermediate_crdc, target_pin}
 use Rattle.s800_layout.specs.Event.{intermediate_track, intermediate_ppac, object_scintillator, tag, event_tag, stamp_tag, number_tag, energies_tag, samples_tag, anode_tag}
 use Rattle.s800_format.specs.declared.tag.Tag.{Tag}
@@ -28,7 +28,16 @@ number is.ObjectPin = tag object_pin
 number is.Hodoscope = tag hodoscope
 number is.VmeAdc = tag vme_adc
 
--- the tag of this number; or no tag has it
-abbrev pub IsTagOf : ℕ → Option Tag → Type 0
-IsTagOf n (Some t) = n ≡ number t
-IsTagOf n None = (t : Tag) → n ≢ number t
+abbrev pub tags : List Tag
+tags =
+    is.Event ∷ is.Trigger ∷ is.TimeOfFlight ∷ is.Timestamp ∷ is.EventNumber ∷ is.Scintillator ∷ is.IonChamber ∷ is.IonChamberEnergies ∷ is.FocalPlaneTime ∷ is.Crdc ∷ is.CrdcSamples
+    ∷ is.CrdcAnode ∷ is.IntermediateCrdc ∷ is.TargetPin ∷ is.IntermediateTrack ∷ is.IntermediatePpac ∷ is.ObjectScintillator ∷ is.ObjectPin ∷ is.Hodoscope ∷ is.VmeAdc ∷ []
+
+-- the tag of a number, among those of a list
+abbrev pub first : List Tag → ℕ → Option Tag
+first [] n = None
+first (t ∷ ts) n = cond (eqb n (number t)) (Some t) (first ts n)
+
+-- and among all; most numbers are no tag's
+unfoldable pub tag_of : ℕ → Option Tag
+tag_of n = first tags n

@@ -26,7 +26,7 @@ pub enum Tag {
 }
 
 impl Tag {
-    ghost use Rattle.s800_format.specs.Tag.{number, IsTagOf};
+    ghost use Rattle.s800_format.specs.Tag.{number, tag_of};
 
     pub fn number(self) -> u32
         ensures { result ≡ number self }
@@ -37,8 +37,9 @@ impl Tag {
     // The tag that a word is: none for most words. (Inlined, so that its match and that of its caller become one branch. An Option and no TryFrom, since a caller
     // refuses by a number of its own.)
     #[inline(always)]
+    #[tactic(auto, unfolding(crate::specs::Tag::tag_of))]
     pub fn of(word: u32) -> Option<Tag>
-        ensures { IsTagOf word result }
+        ensures { result ≡ tag_of word }
     {
         match word {
             0x5800 => Some(Tag::Event),

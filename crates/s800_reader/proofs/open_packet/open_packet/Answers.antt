@@ -13,6 +13,7 @@ use Rattle.s800_layout.specs.Event.{focal_plane_time, intermediate_crdc, target_
 use Rattle.s800_format.specs.declared.tag.Tag.{Tag}
 use Rattle.s800_format.specs.declared.tag.Tag.TheVariants as is
 use Rattle.s800_format.specs.Tag.{number}
+use Rattle.s800_format.proofs.Tags.{number_of_tag, no_number}
 use Rattle.s800_reader.specs.Opening.{OpenAnswer, OpensAs, OpensPacket}
 use Rattle.s800_reader.proofs.Packets.{packet_unknown, packet_known}
 use Rattle.s800_reader.proofs.open_packet.open_packet.Goals.{In-Some}
@@ -22,28 +23,31 @@ known : (c : In-Some) (f : Form) {r : OpenAnswer} {after : List ℕ} → number 
     → OpensPacket c.args.words.now c.args.start c.args.count c.args.rows.now after r
 known c f {r} e o =
     let n : (2 ≤ c.word.result) × (c.word.result ≤ length c.args.words.now - c.args.start) = search rules in
-    packet_known _ _ c.requires.0 c.word.ensures.0 n.0 n.1 c.word-2.ensures.0 f r (c.in-Some.ensures ∙ e) o
+    packet_known _ _ c.requires.0 c.word.ensures.0 n.0 n.1 c.word-2.ensures.0 f r (number_of_tag c.word-2.result c.in-Some.ensures ∙ e) o
 
 pub returns-in_default : goal.returns-in_default
 returns-in_default c =
     let n : (2 ≤ c.word.result) × (c.word.result ≤ length c.args.words.now - c.args.start) = search rules in
     packet_unknown _ _ c.requires.0 c.word.ensures.0 n.0 n.1 c.word-2.ensures.0 (ne_eqb c.word-2.result (tag (form_of c.word-2.result)) (never (form_of c.word-2.result))) c.refuse-in_default.ensures
   where
+    none : (t : Tag) → c.word-2.result ≡ number t → ⊥
+    none = no_number c.word-2.result c.in_default.ensures
+
     never : (f : Form) → c.word-2.result ≡ tag f → ⊥
-    never trigger = c.in_default.ensures is.Trigger
-    never time_of_flight = c.in_default.ensures is.TimeOfFlight
-    never scintillator = c.in_default.ensures is.Scintillator
-    never ion_chamber = c.in_default.ensures is.IonChamber
-    never crdc = c.in_default.ensures is.Crdc
-    never hodoscope = c.in_default.ensures is.Hodoscope
-    never object_pin = c.in_default.ensures is.ObjectPin
-    never vme_adc = c.in_default.ensures is.VmeAdc
-    never (opaque focal_plane_time) = c.in_default.ensures is.FocalPlaneTime
-    never (opaque intermediate_crdc) = c.in_default.ensures is.IntermediateCrdc
-    never (opaque target_pin) = c.in_default.ensures is.TargetPin
-    never (opaque intermediate_track) = c.in_default.ensures is.IntermediateTrack
-    never (opaque intermediate_ppac) = c.in_default.ensures is.IntermediatePpac
-    never (opaque object_scintillator) = c.in_default.ensures is.ObjectScintillator
+    never trigger = none is.Trigger
+    never time_of_flight = none is.TimeOfFlight
+    never scintillator = none is.Scintillator
+    never ion_chamber = none is.IonChamber
+    never crdc = none is.Crdc
+    never hodoscope = none is.Hodoscope
+    never object_pin = none is.ObjectPin
+    never vme_adc = none is.VmeAdc
+    never (opaque focal_plane_time) = none is.FocalPlaneTime
+    never (opaque intermediate_crdc) = none is.IntermediateCrdc
+    never (opaque target_pin) = none is.TargetPin
+    never (opaque intermediate_track) = none is.IntermediateTrack
+    never (opaque intermediate_ppac) = none is.IntermediatePpac
+    never (opaque object_scintillator) = none is.ObjectScintillator
 
 pub returns-in-Trigger : goal.returns-in-Trigger
 returns-in-Trigger c = known (goal.at.returns-in-Trigger c).In-Some trigger (ap number c.in-Trigger.is) c.open_trigger.ensures
@@ -87,12 +91,15 @@ returns-in-Event c =
     let n : (2 ≤ c.word.result) × (c.word.result ≤ length c.args.words.now - c.args.start) = search rules in
     packet_unknown _ _ c.requires.0 c.word.ensures.0 n.0 n.1 c.word-2.ensures.0 (barred c.in-Event.is) c.refuse-in-Event.ensures
   where
+    its : c.word-2.result ≡ number c.in-Some.tag
+    its = number_of_tag c.word-2.result c.in-Some.ensures
+
     barred : (c.in-Some.tag ≡ is.Event) ⊎ (c.in-Some.tag ≡ is.Timestamp) ⊎ (c.in-Some.tag ≡ is.EventNumber) ⊎ (c.in-Some.tag ≡ is.IonChamberEnergies) ⊎ (c.in-Some.tag ≡ is.CrdcSamples)
         ⊎ (c.in-Some.tag ≡ is.CrdcAnode) → eqb c.word-2.result (tag (form_of c.word-2.result)) ≡ false
     barred =
-        ⊎_elim (λ e. rw (c.in-Some.ensures, e))
-        (⊎_elim (λ e. rw (c.in-Some.ensures, e))
-        (⊎_elim (λ e. rw (c.in-Some.ensures, e))
-        (⊎_elim (λ e. rw (c.in-Some.ensures, e))
-        (⊎_elim (λ e. rw (c.in-Some.ensures, e))
-        (λ e. rw (c.in-Some.ensures, e))))))
+        ⊎_elim (λ e. rw (its, e))
+        (⊎_elim (λ e. rw (its, e))
+        (⊎_elim (λ e. rw (its, e))
+        (⊎_elim (λ e. rw (its, e))
+        (⊎_elim (λ e. rw (its, e))
+        (λ e. rw (its, e))))))

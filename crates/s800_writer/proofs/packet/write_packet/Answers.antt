@@ -3,6 +3,7 @@ use mathlib.Core.Path.{sym, ◌∙◌}
 use Rattle.event.specs.Writing.{rows_in}
 use Rattle.event.proofs.Answers.{passed_test, failed_test}
 use Rattle.s800_layout.specs.Event.{form_of}
+use Rattle.s800_format.proofs.Tags.{number_of_tag, no_number}
 use Rattle.s800_writer.specs.Packets.{header_fault}
 use Rattle.s800_writer.proofs.Failures.{handed_on}
 use Rattle.s800_writer.proofs.Headers.{some_tag, own_refused, own_known, own_taken}
@@ -18,15 +19,17 @@ pub write_content-requires : goal.write_content-requires
 write_content-requires c =
     let passed = passed_test (header_fault c.row_at-row.result) c.args.own.at c.in_ok-check_header.ensures in
     let k = own_known (rows_in c.args.own.rows.now) c.args.own.at c.row_at-row.ensures passed in
-    (rw c.in-Some.ensures at k.0, rw c.in-Some.ensures at k.1)
+    let its = number_of_tag c.row_at-row.result.unit c.in-Some.ensures in
+    (rw its at k.0, rw its at k.1)
 
 pub returns : goal.returns
 returns c =
     let passed = passed_test (header_fault c.row_at-row.result) c.args.own.at c.in_ok-check_header.ensures in
-    own_taken (rows_in c.args.own.rows.now) c.args.own.at c.row_at-row.ensures passed (rw (sym c.in-Some.ensures) at c.write_content.ensures)
+    own_taken (rows_in c.args.own.rows.now) c.args.own.at c.row_at-row.ensures passed
+    (rw (sym (number_of_tag c.row_at-row.result.unit c.in-Some.ensures)) at c.write_content.ensures)
 
 pub unreachable-requires : goal.unreachable-requires
 unreachable-requires c =
     let passed = passed_test (header_fault c.row_at-row.result) c.args.own.at c.in_ok-check_header.ensures in
     let k = own_known (rows_in c.args.own.rows.now) c.args.own.at c.row_at-row.ensures passed in
-    let t = some_tag (form_of c.row_at-row.result.unit) in c.in-None.ensures t.0 (sym k.0 ∙ t.1)
+    let t = some_tag (form_of c.row_at-row.result.unit) in no_number c.row_at-row.result.unit c.in-None.ensures t.0 (sym k.0 ∙ t.1)
