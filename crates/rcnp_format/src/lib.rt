@@ -31,12 +31,13 @@ pub enum Form {
 impl Form {
     ghost use Rattle.rcnp_layout.specs.Event.{id_of};
     ghost use Rattle.rcnp_layout.specs.Layout.{allowed_size};
-    ghost use Rattle.rcnp_format.specs.Form.{form, IsFormOf};
+    ghost use Rattle.rcnp_format.specs.Form.{form, form_with_id};
 
     // The form of an id. A region before the check sum may have no other id. (An Option and no TryFrom, since a caller refuses by a number of its own.)
     #[inline(always)]
+    #[tactic(auto, unfolding(crate::specs::Form::form_with_id))]
     pub fn of(id: u32) -> Option<Form>
-        ensures { IsFormOf id result }
+        ensures { result ≡ form_with_id id }
     {
         match id {
             2 => Some(Form::InputRegister),
@@ -72,6 +73,7 @@ impl Form {
 }
 
 // Whether a region before the check sum may have this id.
+#[tactic(auto, using(crate::proofs::Forms::form_there))]
 pub fn has_form(id: u32) -> bool
     ensures { result ≡ eqb id (id_of (form_of id)) }
 {
