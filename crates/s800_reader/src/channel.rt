@@ -12,13 +12,14 @@ use event::refusal::{Fault, Refusal, refuse};
 use event::rows::store_row;
 use s800_format::Format;
 
-// What is left of a packet: channel words from `at` up to its end, none where `at` is the end, after `count` rows of the event.
+// What is left of a packet: channel words from `at` up to its end, none where `at` is the end, after `count` rows of the event. (The format stands last: in the
+// answer that holds this or a refusal the first numbers are then as wide as those of a refusal, and read back as they were stored.)
 #[derive(Clone, Copy)]
 pub(crate) struct Channels {
-    pub(crate) format: Format,
     pub(crate) at: usize,
     pub(crate) end: usize,
     pub(crate) count: usize,
+    pub(crate) format: Format,
 }
 
 pub(crate) fn channel_of(format: Format, w: u32) -> u32
