@@ -8,9 +8,8 @@ use mathlib.Core.List.{List, []}
 use lib.Dec.{leb, ltb}
 use lib.ListN.{length, set, take, drop}
 use borrow.Author.Tests.{leb-true, ltb-true, ltb-false, le-leb, lt-leb, lt-ltb, le-ltb}
-use borrow.Rule.Slice.PartMut.{put_mid}
 use Rattle.std.specs.Prelude.{Ok, Err}
-use Rattle.std.proofs.lemmas.Slice.{put_mid-paste}
+use Rattle.std.proofs.Math.Seq.{paste}
 use Rattle.event.specs.declared.refusal.Refusal.{Refusal}
 use Rattle.event.specs.declared.Row.{Row}
 use Rattle.event.specs.Refusal.{Answer, refusal, verdict}
@@ -117,10 +116,9 @@ module _ (p : Page) (ws room : List ℕ) where
   unfolding added_room
   room_kept e = rw (← e)
 
-  pub room_added : {n : ℕ} → Ok n ≡ adding p ws (length room) → {s : ℕ} → s ≡ slot_of p p.count → {part : List ℕ} → part ≡ ws
-      → put_mid (1024 * s) (1024 * s + length ws - 1024 * s) room part ≡ added_room p ws room
+  pub room_added : {n : ℕ} → Ok n ≡ adding p ws (length room) → {s : ℕ} → s ≡ slot_of p p.count → paste room (1024 * s) ws (length ws) ≡ added_room p ws room
   unfolding added_room
-  room_added e {s} at {part} copied = rw (← e, ← at) (put_mid-paste (1024 * s) (1024 * s + length ws - 1024 * s) room part ws (length ws) copied (omega arith) refl)
+  room_added e {s} at = rw (← e, ← at)
 
 -- ---- reading back
 

@@ -11,7 +11,7 @@ ghost use Rattle.page_layout.specs.Page.{cleared, added, added_room, dropped, fi
 use event::refusal::{Fault, Refusal, refuse};
 pub use hits::{counts, find_plane, plane};
 use page_layout::Page;
-use slots::{check_sound, judge, part, slot};
+use slots::{check_sound, copy_into, judge, part, slot};
 
 // The events that a page holds at most, the words of each at most, and the words that the room for them has at least.
 pub const EVENTS: usize = 64;
@@ -39,9 +39,7 @@ pub fn add(page: &mut Page, words: &[u16], room: &mut [u16]) -> Result<usize, Re
 {
     let count = judge(page, words, room.len())?;
     let newest = slot(page, page.count);
-    let at = WORDS * newest;
-    let end = at + words.len();
-    room[at..end].copy_from_slice(words);
+    copy_into(&mut *room, WORDS * newest, words);
     page.lengths[newest] = words.len();
     if page.count < EVENTS {
         page.count = count;

@@ -1,5 +1,6 @@
 // The slots of a page, and what is tested before an event is added.
-ghost use Rattle.std.specs.Prelude.{◌<◌, ◌≡◌, true, length, Ok, Err};
+ghost use Rattle.std.specs.Prelude.{◌+◌, ◌<◌, ◌≤◌, ◌≡◌, true, length, Ok, Err};
+ghost use Rattle.std.proofs.Math.Seq.{paste};
 ghost use Rattle.event.specs.Refusal.{verdict};
 ghost use Rattle.page_layout.specs.Plane.{table};
 ghost use Rattle.page_layout.specs.Page.{most_words, slot_of, length_of, event_at, all_up_to, sound, adding};
@@ -49,6 +50,16 @@ pub(crate) fn judge(page: &Page, words: &[u16], room: usize) -> Result<usize, Re
         return refuse(Fault::LongEvent, words.len());
     }
     Ok(EVENTS.min(page.count + 1))
+}
+
+// Copies the words into the room, from `at` on. (A loop and no `copy_from_slice`, for which page_calls_c would ask C's library for memmove.)
+pub(crate) fn copy_into(room: &mut [u16], at: usize, words: &[u16])
+    requires { at + length words.now ≤ length room.old }
+    ensures { room.new ≡ paste room.old at words.now (length words.now) }
+{
+    for i in 0..words.len() {
+        room[at + i] = words[i];
+    }
 }
 
 // The words of event k, as part of the room.

@@ -55,12 +55,15 @@ pub(crate) fn put_answer(answer: Result<usize, Refusal>, numbers: &mut [u64])
     put(&told, numbers);
 }
 
-// Puts the items at the front of the buffer, where it has room for all of them.
+// Puts the items at the front of the buffer, where it has room for all of them. (A loop and no `copy_from_slice`, for which page_calls_c would ask C's library for
+// memmove.)
 pub(crate) fn put<T: Copy>(items: &[T], buffer: &mut [T])
     ensures { buffer.new ≡ all_put items.now buffer.old }
 {
     let count = items.len();
     if count <= buffer.len() {
-        buffer[..count].copy_from_slice(items);
+        for i in 0..count {
+            buffer[i] = items[i];
+        }
     }
 }
