@@ -13,9 +13,7 @@ use event::channels::with_channel;
 use event::refusal::Refusal;
 
 // Reads the event up to the first word that breaks a rule. The inner loop takes the channel words of a packet; what stands
-// before them, and packets without any, `open_packet` has read. Where a packet ends is known only once it is opened, so that the outer loop has no range. (Inlined: the
-// smallest events, of no packet, then take no call, and a check has no test of the room.)
-#[inline(always)]
+// before them, and packets without any, `open_packet` has read. Where a packet ends is known only once it is opened, so that the outer loop has no range.
 pub(crate) fn scan(words: &[u16], order: StampOrder, rows: &mut [u32]) -> Result<usize, Refusal>
     ensures { Scanned (rows_of order) (event_parser (length words.now) 0 words.now) 0 rows.old result rows.new }
 {
